@@ -3,51 +3,25 @@ use Rattle.std.proofs.Common.{◌≡◌, ◌≢◌, ℕ, List, [], ◌∷◌, ma
 use Rattle.std.specs.Prelude.{codes}
 use Rattle.std.specs.Str.{bytes_eq}
 use Rattle.sm_io.specs.Files.{FileMap}
-use Rattle.arm_balance.specs.declared.Arm.{Arm}
-use Rattle.mod_layout.specs.declared.Module.{Module}
-use Rattle.mod_layout.specs.Table.{module_of}
-use Rattle.terms_file.specs.declared.Term.{Term}
 use Rattle.image_text.specs.Image.{Image}
 use Rattle.link_map.specs.Map.{map_text}
 use Rattle.pulse_sweep.specs.Sweep.{different, sweep_text}
 use Rattle.pulse_sweep.specs.declared.Pulses.{Pulses}
 use Rattle.cli_files.specs.declared.answers.Status.{Status}
 use Rattle.cli_files.specs.declared.answers.Status.TheVariants as status
-use Rattle.cli_files.specs.Files.{need, image_file, image_with, terms_file, an_image, the_terms, certificates, Holds}
+use Rattle.cli_files.specs.Files.{need, image_file, an_image, Holds}
 use Rattle.cli_calls.specs.Calls.{Completes}
-use Rattle.cli_calls.specs.Command.{Command, Outcome, gives, judges, nothing, Comes}
-use Rattle.cli_calls.specs.Ids.{id_of}
+use Rattle.cli_calls.specs.Command.{Command, Outcome, offers, nothing, Comes}
 use Rattle.cli_calls.specs.Values.{file_named}
 use Rattle.cli_calls.specs.Words.{Text, values_in}
 use Rattle.cli_calls.proofs.Sound.{Sound, of_image_run, of_objects, IfSound, IsSomething, if_none, if_some, if_map, if_then, if_else}
 use Rattle.lab_cli.specs.CommandLine.{command_by, command_of}
 use Rattle.lab_cli.specs.MapCommand.{map_of}
-use Rattle.lab_cli.specs.ReleasedCommand.{arms_in, released_by, released_command, released_in, released_of, told_by}
-use Rattle.lab_cli.specs.internal.ReleasedCommand.{AreArmsOf}
+use Rattle.lab_cli.specs.ReleasedCommand.{judged_under, released_of}
 use Rattle.lab_cli.specs.StepsCommand.{steps_of, steps_outcome}
 use Rattle.lab_cli.specs.SweepCommand.{pulses_of, sweep_answer, sweep_command, sweep_of, sweep_status}
 use Rattle.lab_cli.specs.TermsCommand.{offer_of}
 use Rattle.lab_cli.proofs.UnderTerms.{of_judged}
-
-some_released : (value : Image) (terms : List Term) (arms : List Arm) (o : Option Module) → is_some o ≡ true → released_by value terms arms o ≡ nothing → ⊥
-some_released value terms arms None s e = cc
-some_released value terms arms (Some owner) s e = cc
-
-sound_released : (name : Text) (id : ℕ) (terms : Text) (arms : Option Text) → Sound (released_command name id terms arms)
-sound_released name id terms arms map [] h e = h
-sound_released name id terms arms map (held ∷ []) h e = h.1
-sound_released name id terms arms map (an_image value ∷ the_terms told ∷ more) h e = some_released value told (arms_in more) (module_of id value.table) h.0.is.1 e
-sound_released name id terms arms map (an_image value ∷ held ∷ more) h e = h.1.0.is
-sound_released name id terms arms map (held ∷ second ∷ more) h e = h.0.is
-
--- what comes of an image, terms and certificates
-pub released_comes : (files : Option FileMap) (name : Text) (id : ℕ) (terms_name : Text) (arms_name : Option Text) (value : Image) (owner : Module) (terms : List Term) (arms : List Arm)
-    → Holds files (need name (image_with id)) (an_image value) → Holds files (need terms_name terms_file) (the_terms terms) → AreArmsOf files arms_name arms → module_of id value.table ≡ Some owner
-    → Comes files (released_command name id terms_name arms_name) (judges (told_by terms) owner (section owner.text value.memory) arms)
-released_comes files name id terms_name None value owner terms arms h t a owned =
-    record { helds = an_image value ∷ the_terms terms ∷ []; hold = (h, (t, tt)); is = ap (released_by value terms []) owned ∙ ap (judges (told_by terms) owner (section owner.text value.memory)) (sym a) }
-released_comes files name id terms_name (Some own) value owner terms arms h t a owned =
-    record { helds = an_image value ∷ the_terms terms ∷ certificates arms ∷ []; hold = (h, (t, (a, tt))); is = ap (released_by value terms arms) owned }
 
 sound_sweep : (first second : Text) (pulses : Pulses) → Sound (sweep_command first second pulses)
 sound_sweep first second pulses map [] h e = h
@@ -89,7 +63,8 @@ of_name name words =
     if_else (bytes_eq name (codes "released")) _ _ (if_then released_of (values_in 4 4 words) of_released) (
     if_else (bytes_eq name (codes "sweep")) _ _ (if_then sweep_of (values_in 6 6 words) of_sweep) (
     if_else (bytes_eq name (codes "steps")) _ _ (if_then steps_of (values_in 3 3 words) (of_image_run steps_outcome some_steps)) (
-    if_none))))
+    if_else (bytes_eq name (codes "terms")) _ _ (if_then offer_of (values_in 4 4 words) of_offer) (
+    if_none)))))
 
 -- what comes of the files of a command line is something
 pub something : (words : List Text) (map : FileMap) (command : Command) (outcome : Outcome) → command_of words ≡ Some command → Comes (Some map) command outcome → outcome ≡ nothing → ⊥

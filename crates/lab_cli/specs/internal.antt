@@ -1,3 +1,4 @@
 pub mod ReleasedCommand
 pub mod SweepCommand
+pub mod TermsCommand
 pub mod CommandLine

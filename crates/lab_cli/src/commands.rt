@@ -8,6 +8,7 @@ use crate::map::MapText;
 use crate::released::{self, ReleasedCommand};
 use crate::steps::Steps;
 use crate::sweep::SweepCommand;
+use crate::terms::{self, TermsCommand};
 use cli_calls::{Answering, ImageRun, ObjectsCommand, read};
 use cli_files::{Refused, Status};
 use sm_io::{Files, Sink};
@@ -20,6 +21,7 @@ pub enum LabCommand<'a> {
     Released(ReleasedCommand<'a>),
     Sweep(SweepCommand<'a>),
     Steps(ImageRun<'a, Steps>),
+    Terms(TermsCommand<'a>),
 }
 
 /// The command that the words are.
@@ -54,6 +56,8 @@ fn command_by<'a>(
         Ok(read::<SweepCommand>(alloc, "sweep", words, 6, 6)?.map(LabCommand::Sweep))
     } else if name == "steps" {
         Ok(read::<ImageRun<Steps>>(alloc, "steps", words, 3, 3)?.map(LabCommand::Steps))
+    } else if name == "terms" {
+        Ok(terms::read(alloc, words)?.map(LabCommand::Terms))
     } else {
         Ok(None)
     }

@@ -12,6 +12,7 @@ use Rattle.lab_cli.specs.internal.ReleasedCommand.{released_asked}
 use Rattle.lab_cli.specs.SweepCommand.{sweep_command}
 use Rattle.lab_cli.specs.internal.SweepCommand.{IsWithin}
 use Rattle.lab_cli.specs.StepsCommand.{steps_outcome}
+use Rattle.lab_cli.specs.internal.TermsCommand.{offer_asked}
 
 -- what the program's value asks for
 abbrev pub asked : LabCommand → Command
@@ -19,6 +20,7 @@ asked (line.Map c) = objects_command map_text c.layout.now (map (λ o. o.now) c.
 asked (line.Released c) = released_asked c
 asked (line.Sweep c) = sweep_command c.first.now c.second.now c.pulses
 asked (line.Steps c) = image_run_command steps_outcome c.image.now (option_copied c.schedule) c.cycles
+asked (line.Terms c) = offer_asked c
 
 -- its numbers are within their bounds
 abbrev pub IsBounded : LabCommand → Type 0
