@@ -1,5 +1,5 @@
 -- The state of the devices: four lines, a serial device and a timer, moved by a schedule, cycle by cycle.
-use Rattle.std.specs.Prelude.{ℕ, ◌+◌, ◌-◌, ◌*◌, ◌/◌, ◌%◌, ◌^◌, List, [], ◌∷◌, find, ◌==◌, nat_le, if◌then◌else◌, Bool, true, false, ◌&&◌, ◌||◌, Option, Some, None}
+use Rattle.std.specs.Prelude.{ℕ, ◌+◌, ◌-◌, ◌*◌, ◌/◌, ◌%◌, ◌^◌, List, [], ◌∷◌, map, find, ◌==◌, nat_le, if◌then◌else◌, Bool, true, false, ◌&&◌, ◌||◌, Option, Some, None}
 use Rattle.std.specs.Int.{bit_at}
 use Rattle.std.specs.Option.{option_or}
 use Rattle.schedule_file.specs.declared.Entry.{Entry}
@@ -63,7 +63,7 @@ abbrev pub serial_line : Devices → Option ℕ
 serial_line d = if d.listening && d.got then Some SERIAL_VECTOR else None
 
 abbrev pub highest_line : Devices → Option ℕ
-highest_line d = find (λ v. line_raised d (v - LINES_VECTOR)) (LINES_VECTOR + 3 ∷ LINES_VECTOR + 2 ∷ LINES_VECTOR + 1 ∷ LINES_VECTOR ∷ [])
+highest_line d = find (λ v. line_raised d (v - LINES_VECTOR)) (map (λ n. LINES_VECTOR + n) (3 ∷ 2 ∷ 1 ∷ 0 ∷ []))
 
 unfoldable pub line_of : Devices → Option ℕ
 line_of d = option_or (timer_line d) (option_or (serial_line d) (highest_line d))

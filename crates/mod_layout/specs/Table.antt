@@ -1,5 +1,5 @@
 -- Modules, their places in the address space, and the table that holds them.
-use Rattle.std.specs.Prelude.{ℕ, ◌+◌, ◌-◌, ◌%◌, List, [], ◌∷◌, ◌++◌, min, map, filter, ◌==◌, nat_lt, nat_le, if◌then◌else◌, Bool, true, false, ◌&&◌, ◌||◌, not, find, Option, Some, None, is_none, option_map, option_and_then, length}
+use Rattle.std.specs.Prelude.{ℕ, ◌+◌, ◌-◌, ◌%◌, List, [], ◌∷◌, ◌++◌, min, map, filter, ◌==◌, nat_lt, nat_le, if◌then◌else◌, Bool, ◌&&◌, ◌||◌, not, find, Option, None, is_none, option_map, option_and_then, length}
 use Rattle.std.specs.Bool.{then_some}
 use Rattle.std.specs.List.{reduce}
 use Rattle.std.specs.Option.{option_or}
