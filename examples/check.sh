@@ -2,7 +2,7 @@
 # Runs the commands of all pages, in their order: each line of the README, of docs/ and of the pages here that begins with `./sancus`,
 # `./sancus-lab` or a script of `tools/`, compared with the block of text after it, whose last line is `status N` where the command ends
 # with another status than 0; each `clang` line, compared with the object in the folder, and each `llvm-symbolizer` line, where clang 14
-# is there; the commands of the manual, and its files by the command beside each. Then it draws the figure again.
+# is there; the commands of the manuals, and the files of sancus(1) by the command beside each. Then it draws the figure again.
 #     examples/check.sh [PROGRAM [LAB]]
 # PROGRAM stands for ./sancus where it is given, LAB for ./sancus-lab. The last line is 'N commands, M differ, K not run'.
 here=$(dirname -- "$(readlink -f -- "$0")") || exit 1
@@ -76,7 +76,7 @@ check_page() {
     done
 }
 
-# The manual's commands, a line each; before them its files, and `./sancus` before what stands beside each.
+# A manual's commands, a line each; before them its files, and `./sancus` before what stands beside each.
 split_manual() {
     awk '
         /^\.\\" file: / { file = $3; inside = 0; next }
@@ -84,7 +84,7 @@ split_manual() {
         file != "" && /^\.Bd / { inside = 1; next }
         file != "" && /^\.(Ed|Dl )/ { if ($1 == ".Dl") print substr($0, 5) > file; file = ""; inside = 0; next }
         inside { print > file; next }
-        /^(\.Dl )?\$ sancus / || going_on {
+        /^(\.Dl )?\$ sancus(-lab)? / || going_on {
             sub(/^(\.Dl )?\$ /, "./")
             going_on = sub(/ *\\e$/, "")
             printf "%s%s", $0, going_on ? " " : "\n"
@@ -93,20 +93,21 @@ split_manual() {
 
 # What they print is in no page: a status of 0, of a stop or of a verdict is wanted.
 check_manual() {
-    split_manual "$top/docs/sancus.1" >manual
+    split_manual "$top/$1" >manual
     : >wanted
     while read -r line; do
         printf '%s\n' "$line" >line.sh
         run ./line.sh
         case $status in 0 | 3 | 9) : >got ;; esac
-        compare "docs/sancus.1: $line" wanted
+        compare "$1: $line" wanted
     done <manual
 }
 
 for page in "$top"/README.md "$top"/docs/*.md examples/README.md examples/*/README.md examples/attacks/*/README.md; do
     [ ! -f "$page" ] || check_page "$page"
 done
-check_manual
+check_manual docs/sancus.1
+check_manual docs/sancus-lab.1
 for object in examples/*/*.o examples/attacks/*/*.o; do
     [ ! -f "$object" ] || cmp -s "$object" "$top/$object" || {
         differ=$((differ + 1))
