@@ -11,7 +11,7 @@ use Rattle.cli_files.specs.declared.answers.Status.{Status}
 use Rattle.cli_files.specs.declared.answers.Status.TheVariants as status
 use Rattle.cli_files.specs.Files.{need, image_file, an_image, Holds}
 use Rattle.cli_calls.specs.Calls.{Completes}
-use Rattle.cli_calls.specs.Command.{Command, Outcome, offers, nothing, Comes}
+use Rattle.cli_calls.specs.Command.{Command, Outcome, gives, offers, nothing, Comes}
 use Rattle.cli_calls.specs.Values.{file_named}
 use Rattle.cli_calls.specs.Words.{Text, values_in}
 use Rattle.cli_calls.proofs.Sound.{Sound, of_image_run, of_objects, IfSound, IsSomething, if_none, if_some, if_map, if_then, if_else}

@@ -59,7 +59,7 @@ pub fn serve<F: Files, O: Sink, E: Sink>(
         (Took O.taken O.faults O.sure out.old out.new) (CutOff O.taken O.faults O.sure out.old out.new)
         ((ended : Statuses) × Refuses call ended (CutOff E.taken E.faults E.sure err.old err.new))) }
 
-    // Of images that differ in one confined module's data alone no row of a sweep differs.
+    // Of images that differ in one confined module's data alone, whose calls by itself are the same with both, no row differs.
     ensures peers { (first second : Image) (id : ℕ) → IsSweep (texts words.now) (F.content files.old) first second →
         Peers first second id → result ≢ Status.CheckNo }
 
