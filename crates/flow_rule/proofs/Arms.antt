@@ -24,10 +24,11 @@ use Rattle.mod_layout.specs.Table.{holds}
 use Rattle.cpu_step.specs.Asked.{asks}
 use Rattle.cpu_step.specs.Lone.{Job, Lone, lone_step, job_of}
 use Rattle.flow_rule.specs.Terms.{Terms}
+use Rattle.flow_rule.specs.declared.Label.{Label}
 use Rattle.flow_rule.specs.declared.Val.{Val}
 use Rattle.flow_rule.specs.declared.Val.TheVariants.{Known, Away, Public, Secret}
 use Rattle.flow_rule.specs.Values.{is_secret, set_each, val, put_val, kept_val}
-use Rattle.flow_rule.specs.declared.Reason.TheVariants.{SecretBranch, Arm as ArmInsn, ArmTime}
+use Rattle.flow_rule.specs.declared.Reason.TheVariants.{SecretBranch, Arm as ArmInsn}
 use Rattle.flow_rule.specs.Rounds.{Point, Found, Step}
 use Rattle.flow_rule.specs.Does.{does_val, past_val}
 use Rattle.flow_rule.specs.Reasons.{because_if}
@@ -37,10 +38,10 @@ use Rattle.flow_rule.proofs.Meaning.{Agrees}
 use Rattle.flow_rule.proofs.Cores.{AgreeCore, put_other_reg, mode, confined_kept}
 use Rattle.flow_rule.proofs.Plans.{none_left, none_right, none_if}
 use Rattle.arm_balance.specs.declared.Arm.{Arm}
-use Rattle.flow_rule.specs.Arms.{stepped_regs, written_reg, written_regs, blot_core, Walk, ended, walked, walk_past, walk_on, walk, arm_start, step_arm, step_branch, step_arms_by, step_arms}
+use Rattle.flow_rule.specs.Arms.{stepped_regs, written_reg, written_regs, blot_core, Walk, Meets, Stops, blot, walked, walk_on, walk, arm_start, arm_reasons, step_arm, step_branch, step_arms_by, step_arms}
 use Rattle.arm_balance.specs.Met.{met}
 use Rattle.arm_balance.specs.Balance.{arm_next, met_cycles}
-use Rattle.flow_rule.proofs.Walks.{met_regs, met_words, with_met, is_met, met_none}
+use Rattle.flow_rule.proofs.Walks.{met_regs, met_words, MeetsJoin, time_to, walk_regs, walk_words, with_met, is_met, met_rest, on_time}
 use Rattle.flow_rule.proofs.Words.{NotIn, word, Shape, IsData, AgreeData}
 use Rattle.flow_rule.proofs.Runs.{at_rest, Passes, Stays, Crossing, Standing}
 use Rattle.flow_rule.proofs.Instruction.{AgreeAt, Single, Here, Gone, after, does_it, jump_so, past_pc, Parts, plain_parts, plain_kept, two_alike, one_alike, way_agrees, way_single, way_val, fetched}
@@ -287,12 +288,12 @@ module _ (terms : Terms) (key : List ℕ) (m : Module) (text : List ℕ) (caller
   record Walked (w : Walk) (join : ℕ) (c d : List ℕ) : Type 0 where
     core : List ℕ
     data_left : List ℕ
-    pass : Passes j w.cycles (at_rest c d) (at_rest core data_left)
+    pass : Passes j (time_to w) (at_rest c d) (at_rest core data_left)
     here : reg core 0 ≡ join
     fine : (v : List Val) × AgreeCore m.text v core core
     is_data : IsData m data_left
-    regs : (k : ℕ) → k ≢ 0 → k ≢ 2 → NotIn k w.regs → reg core k ≡ reg c k
-    words : (i : ℕ) → NotIn i w.words → word data_left i ≡ word d i
+    regs : (k : ℕ) → k ≢ 0 → k ≢ 2 → NotIn k (walk_regs w) → reg core k ≡ reg c k
+    words : (i : ℕ) → NotIn i (walk_words w) → word data_left i ≡ word d i
     sr : mode (reg core 2) ≡ mode (reg c 2)
 
   -- a run that stands at a point, by itself
@@ -306,20 +307,38 @@ module _ (terms : Terms) (key : List ℕ) (m : Module) (text : List ℕ) (caller
   Refines S = (x : Point) (c d : List ℕ) (join next : ℕ) → AgreeAt m x c d c d → arm_next join x.pair.addr (met m.text text x.pair.addr) ≡ Some next → (S x).reasons ≡ [] → ((step_of terms m text x).reasons ≡ []) × ((S x).gives ≡ (step_of terms m text x).gives)
 
   module _ (S : Point → Step) (refine : Refines S) where
-    -- past its first instruction
-    walk_more : (branch join fuel : ℕ) → holds m.text join ≡ true → (x : Point) (c d : List ℕ) → AgreeAt m x c d c d → (next : ℕ) → arm_next join x.pair.addr (met m.text text x.pair.addr) ≡ Some next →
-        ((y : Point) (c d : List ℕ) → Alone y c d → (walk S m text branch join fuel y).reasons ≡ [] → Walked (walk S m text branch join fuel y) join c d) →
-        (rs : List Found) (gs : List Point) → (S x).reasons ≡ rs → (S x).gives ≡ gs →
-        (walk_past rs gs branch next m text x (walk S m text branch join fuel)).reasons ≡ [] →
-        Walked (walk_past rs gs branch next m text x (walk S m text branch join fuel)) join c d
-    walk_more branch join fuel inn x c d at next on go (r ∷ rs) gs er eg none = absurd cc
-    walk_more branch join fuel inn x c d at next on go [] [] er eg none = absurd cc
-    walk_more branch join fuel inn x c d at next on go [] (y ∷ ys) er eg none = by mv.single
-      where
-        mv : Moved x (S x).gives c d (met_cycles (met m.text text x.pair.addr)) (met_regs (met m.text text x.pair.addr)) (met_words (met m.text text x.pair.addr) m x)
-        mv = let r = refine x c d join next at on er in subst (λ g. Moved x g c d (met_cycles (met m.text text x.pair.addr)) (met_regs (met m.text text x.pair.addr)) (met_words (met m.text text x.pair.addr) m x)) (sym r.1) (arm_move x c d join next at on r.0)
+    -- what a run does along each walk to the join in so many steps
+    abbrev Arrives : ℕ → ℕ → Type 0
+    Arrives join fuel =
+        (y : Point) (c d : List ℕ) → Alone y c d → MeetsJoin (walk S m text join fuel y) →
+        Walked (walk S m text join fuel y) join c d
 
-        by : Single terms m (S x).gives mv.core mv.data_left mv.core mv.data_left → Walked (walked (met m.text text x.pair.addr) m x (walk S m text branch join fuel y)) join c d
+    -- the walk from a point, by where an arm goes on there
+    abbrev onward : ℕ → ℕ → Option ℕ → Point → Walk
+    onward join fuel o x = walk_on o (S x).reasons (S x).gives m text x (walk S m text join fuel)
+
+    abbrev met_at : Point → Option Insn
+    met_at x = met m.text text x.pair.addr
+
+    abbrev MovedAt : Point → List Point → List ℕ → List ℕ → Type 0
+    MovedAt x gives c d = Moved x gives c d (met_cycles (met_at x)) (met_regs (met_at x)) (met_words (met_at x) m x)
+
+    -- past its first instruction
+    walk_more : (join fuel : ℕ) (x : Point) (c d : List ℕ) → AgreeAt m x c d c d → (next : ℕ) →
+        arm_next join x.pair.addr (met_at x) ≡ Some next → Arrives join fuel →
+        (rs : List Found) (gs : List Point) → (S x).reasons ≡ rs → (S x).gives ≡ gs →
+        MeetsJoin (walk_on (Some next) rs gs m text x (walk S m text join fuel)) →
+        Walked (walk_on (Some next) rs gs m text x (walk S m text join fuel)) join c d
+    walk_more join fuel x c d at next on go (r ∷ rs) gs er eg meets = absurd meets
+    walk_more join fuel x c d at next on go [] [] er eg meets = absurd meets
+    walk_more join fuel x c d at next on go [] (y ∷ ys) er eg meets = by mv.single
+      where
+        mv : MovedAt x (S x).gives c d
+        mv = let r = refine x c d join next at on er in
+            subst (λ g. MovedAt x g c d) (sym r.1) (arm_move x c d join next at on r.0)
+
+        by : Single terms m (S x).gives mv.core mv.data_left mv.core mv.data_left →
+            Walked (walked (met_at x) m x (walk S m text join fuel y)) join c d
         by (Gone nothing same out_a out_b p q agree) = absurd (empty (eg_to nothing))
           where
             eg_to : (S x).gives ≡ [] → (y ∷ ys) ≡ []
@@ -329,31 +348,40 @@ module _ (terms : Terms) (key : List ℕ) (m : Module) (text : List ℕ) (caller
             empty e = cc
         by (Here y1 one at1) =
             let e : y1 ≡ y = ap first_of_points (sym one ∙ eg) in
-            let al : Alone y mv.core mv.data_left = subst (λ z. Alone z mv.core mv.data_left) e (record { pc = at1.pc_a; core = at1.core; words = at1.words }) in
-            let o = met m.text text x.pair.addr in
-            let rest = walk S m text branch join fuel y in
-            let w = go y mv.core mv.data_left al (met_none o m x rest none) in
-            let is : Walked (with_met o m x rest) join c d =
-            record {
-              core = w.core;
-              data_left = w.data_left;
-              pass = passes_on j (met_cycles o) (walk S m text branch join fuel y).cycles (at_rest c d) (at_rest mv.core mv.data_left) (at_rest w.core w.data_left) mv.pass w.pass;
-              here = w.here;
-              fine = w.fine;
-              is_data = w.is_data;
-              regs = λ k n0 n2 no. w.regs k n0 n2 (not_right k (met_regs o) (walk S m text branch join fuel y).regs no) ∙ mv.regs k n0 n2 (not_left k (met_regs o) (walk S m text branch join fuel y).regs no);
-              words = λ i no. w.words i (not_right i (met_words o m x) (walk S m text branch join fuel y).words no) ∙ mv.words i (not_left i (met_words o m x) (walk S m text branch join fuel y).words no);
-              sr = w.sr ∙ mv.sr;
-            } in
-            subst (λ z. Walked z join c d) (sym (is_met o m x rest)) is
+            let al : Alone y mv.core mv.data_left =
+            subst (λ z. Alone z mv.core mv.data_left) e (record { pc = at1.pc_a; core = at1.core; words = at1.words }) in
+            let rest = walk S m text join fuel y in
+            let on_join = met_rest (met_at x) m x rest meets in
+            subst (λ z. Walked z join c d) (sym (is_met (met_at x) m x rest))
+            (joined rest on_join (go y mv.core mv.data_left al on_join))
           where
             first_of_points : List Point → Point
             first_of_points [] = y
             first_of_points (z ∷ zs) = z
 
-    walk_reach : (branch join fuel : ℕ) (x : Point) → (walk S m text branch join fuel x).reasons ≡ [] → x.pair.addr ≤ join
-    walk_reach branch join zero x none = absurd cc
-    walk_reach branch join (suc fuel) x none = by (x.pair.addr == join) refl (holds m.text x.pair.addr) (nat_lt x.pair.addr join) refl none
+            joined : (rest : Walk) → MeetsJoin rest → Walked rest join mv.core mv.data_left →
+                Walked (with_met (met_at x) (met_words (met_at x) m x) rest) join c d
+            joined (Stops a) meets w = absurd meets
+            joined (Meets n rs ws) meets w =
+                record {
+                  core = w.core;
+                  data_left = w.data_left;
+                  pass = passes_on j (met_cycles (met_at x)) n (at_rest c d) (at_rest mv.core mv.data_left) (at_rest w.core w.data_left)
+                      mv.pass w.pass;
+                  here = w.here;
+                  fine = w.fine;
+                  is_data = w.is_data;
+                  regs = λ k n0 n2 no. w.regs k n0 n2 (not_right k (met_regs (met_at x)) rs no)
+                      ∙ mv.regs k n0 n2 (not_left k (met_regs (met_at x)) rs no);
+                  words = λ i no. w.words i (not_right i (met_words (met_at x) m x) ws no)
+                      ∙ mv.words i (not_left i (met_words (met_at x) m x) ws no);
+                  sr = w.sr ∙ mv.sr;
+                }
+
+    walk_reach : (join fuel : ℕ) (x : Point) → MeetsJoin (walk S m text join fuel x) → x.pair.addr ≤ join
+    walk_reach join zero x meets = absurd meets
+    walk_reach join (suc fuel) x meets =
+        by (x.pair.addr == join) refl (holds m.text x.pair.addr) (nat_lt x.pair.addr join) refl meets
       where
         eq_le : (a : ℕ) → (a == join) ≡ true → a ≤ join
         eq_le a e = let k : a ≡ join = grind (arith, nat_tests) in omega arith
@@ -362,51 +390,63 @@ module _ (terms : Terms) (key : List ℕ) (m : Module) (text : List ℕ) (caller
         lt_le a e = let k : a < join = grind (arith, nat_tests) in omega arith
 
         by : (b : Bool) → (x.pair.addr == join) ≡ b → (p q : Bool) → nat_lt x.pair.addr join ≡ q →
-            (cond b ended (walk_on (cond (p && q) (arm_next join x.pair.addr (met m.text text x.pair.addr)) None) (S x) branch m text x (walk S m text branch join fuel))).reasons ≡ [] → x.pair.addr ≤ join
-        by true e p q f none = eq_le x.pair.addr e
-        by false e true true f none = lt_le x.pair.addr f
-        by false e true false f none = absurd cc
-        by false e false q f none = absurd cc
+            MeetsJoin (cond b (Meets 0 [] []) (onward join fuel (cond (p && q) (arm_next join x.pair.addr (met_at x)) None) x)) →
+            x.pair.addr ≤ join
+        by true e p q f meets = eq_le x.pair.addr e
+        by false e true true f meets = lt_le x.pair.addr f
+        by false e true false f meets = absurd meets
+        by false e false q f meets = absurd meets
 
-    walk_arm : (branch join fuel : ℕ) → holds m.text join ≡ true → (x : Point) (c d : List ℕ) → Alone x c d → (walk S m text branch join fuel x).reasons ≡ [] → Walked (walk S m text branch join fuel x) join c d
-    walk_arm branch join zero inn x c d at none = absurd cc
-    walk_arm branch join (suc fuel) inn x c d at none = by (x.pair.addr == join) refl (λ y c d al none. walk_arm branch join fuel inn y c d al none) none
+    walk_arm : (join fuel : ℕ) → Arrives join fuel
+    walk_arm join zero x c d at meets = absurd meets
+    walk_arm join (suc fuel) x c d at meets =
+        by (x.pair.addr == join) refl (λ y c d al meets. walk_arm join fuel y c d al meets) meets
       where
-        rest : Point → Walk
-        rest = walk S m text branch join fuel
+        by_next : (o : Option ℕ) → arm_next join x.pair.addr (met_at x) ≡ o → holds m.text x.pair.addr ≡ true →
+            Arrives join fuel → MeetsJoin (onward join fuel o x) → Walked (onward join fuel o x) join c d
+        by_next None e t go meets = absurd meets
+        by_next (Some next) e t go meets =
+            let here : AgreeAt m x c d c d = record { pc_a = at.pc; pc_b = at.pc; core = at.core; words = at.words; in_text = t } in
+            walk_more join fuel x c d here next e go (S x).reasons (S x).gives refl refl meets
+
+        by_test : (p q : Bool) → holds m.text x.pair.addr ≡ p → Arrives join fuel →
+            MeetsJoin (onward join fuel (cond (p && q) (arm_next join x.pair.addr (met_at x)) None) x) →
+            Walked (onward join fuel (cond (p && q) (arm_next join x.pair.addr (met_at x)) None) x) join c d
+        by_test true true e go meets = by_next (arm_next join x.pair.addr (met_at x)) refl e go meets
+        by_test true false e go meets = absurd meets
+        by_test false q e go meets = absurd meets
 
         on : Option ℕ
-        on = cond (holds m.text x.pair.addr && nat_lt x.pair.addr join) (arm_next join x.pair.addr (met m.text text x.pair.addr)) None
+        on = cond (holds m.text x.pair.addr && nat_lt x.pair.addr join) (arm_next join x.pair.addr (met_at x)) None
 
-        by_next : (o : Option ℕ) → arm_next join x.pair.addr (met m.text text x.pair.addr) ≡ o → holds m.text x.pair.addr ≡ true →
-            ((y : Point) (c d : List ℕ) → Alone y c d → (walk S m text branch join fuel y).reasons ≡ [] → Walked (walk S m text branch join fuel y) join c d) →
-            (walk_on o (S x) branch m text x rest).reasons ≡ [] → Walked (walk_on o (S x) branch m text x rest) join c d
-        by_next None e t go none = absurd cc
-        by_next (Some next) e t go none =
-            walk_more branch join fuel inn x c d (record { pc_a = at.pc; pc_b = at.pc; core = at.core; words = at.words; in_text = t }) next e go (S x).reasons (S x).gives refl refl none
-
-        by_test : (p q : Bool) → holds m.text x.pair.addr ≡ p →
-            ((y : Point) (c d : List ℕ) → Alone y c d → (walk S m text branch join fuel y).reasons ≡ [] → Walked (walk S m text branch join fuel y) join c d) →
-            (walk_on (cond (p && q) (arm_next join x.pair.addr (met m.text text x.pair.addr)) None) (S x) branch m text x rest).reasons ≡ [] →
-            Walked (walk_on (cond (p && q) (arm_next join x.pair.addr (met m.text text x.pair.addr)) None) (S x) branch m text x rest) join c d
-        by_test true true e go none = by_next (arm_next join x.pair.addr (met m.text text x.pair.addr)) refl e go none
-        by_test true false e go none = absurd cc
-        by_test false q e go none = absurd cc
-
-        by : (b : Bool) → (x.pair.addr == join) ≡ b →
-            ((y : Point) (c d : List ℕ) → Alone y c d → (walk S m text branch join fuel y).reasons ≡ [] → Walked (walk S m text branch join fuel y) join c d) →
-            (cond b ended (walk_on on (S x) branch m text x rest)).reasons ≡ [] → Walked (cond b ended (walk_on on (S x) branch m text x rest)) join c d
-        by true e go none =
-            record { core = c; data_left = d; pass = refl; here = at.pc ∙ same_addr x.pair.addr e; fine = (x.label.core, at.core); is_data = at.words.is_a; regs = λ k n0 n2 no. refl; words = λ i no. refl; sr = refl }
+        by : (b : Bool) → (x.pair.addr == join) ≡ b → Arrives join fuel →
+            MeetsJoin (cond b (Meets 0 [] []) (onward join fuel on x)) →
+            Walked (cond b (Meets 0 [] []) (onward join fuel on x)) join c d
+        by true e go meets =
+            record {
+              core = c;
+              data_left = d;
+              pass = refl;
+              here = at.pc ∙ same_addr x.pair.addr e;
+              fine = (x.label.core, at.core);
+              is_data = at.words.is_a;
+              regs = λ k n0 n2 no. refl;
+              words = λ i no. refl;
+              sr = refl;
+            }
           where
             same_addr : (a : ℕ) → (a == join) ≡ true → a ≡ join
             same_addr a e = grind (arith, nat_tests)
-        by false e go none = by_test (holds m.text x.pair.addr) (nat_lt x.pair.addr join) refl go none
+        by false e go meets = by_test (holds m.text x.pair.addr) (nat_lt x.pair.addr join) refl go meets
 
 -- ---- what the arms write is Secret
 blot_core_long : (ns : List ℕ) (v : List Val) → length (blot_core ns v) ≡ length v
 blot_core_long [] v = refl
 blot_core_long (n ∷ ns) v = blot_core_long ns (put_val v n Secret) ∙ length-set v n (kept_val n Secret)
+
+blot_long : (w : Walk) (l : Label) → length (blot w l).core ≡ length l.core
+blot_long (Meets cycles regs words) l = blot_core_long regs l.core
+blot_long (Stops addr) l = refl
 
 module _ (s : Section) where
   secret_kept : (n a b : ℕ) → (n ≡ 3 → (a ≡ 0) × (b ≡ 0)) → Agrees s (kept_val n Secret) a b
@@ -449,6 +489,16 @@ module _ (s : Section) where
   blot_at [] v n a b h = h tt
   blot_at (k ∷ ns) v n a b h = blot_at ns (set v k Secret) n a b (λ no. one_blot_word v n k a b (λ ne. h (ne, no)))
 
+  walk_blots : (w : Walk) (l : Label) (n a b : ℕ) → (n ≡ 3 → (a ≡ 0) × (b ≡ 0)) →
+      (NotIn n (walk_regs w) → Agrees s (val l.core n) a b) → Agrees s (val (blot w l).core n) a b
+  walk_blots (Meets cycles regs words) l n a b zero3 h = blot_core_at regs l.core n a b zero3 h
+  walk_blots (Stops addr) l n a b zero3 h = h tt
+
+  walk_blots_word : (w : Walk) (l : Label) (n a b : ℕ) → (NotIn n (walk_words w) → Agrees s (nth n l.words Secret) a b) →
+      Agrees s (nth n (blot w l).words Secret) a b
+  walk_blots_word (Meets cycles regs words) l n a b h = blot_at words l.words n a b h
+  walk_blots_word (Stops addr) l n a b h = h tt
+
 -- ---- both arms
 module _ (terms : Terms) (key : List ℕ) (m : Module) (text : List ℕ) (caller : ℕ) (shape : Shape m) (S : Point → Step) (refine : Refines terms key m text caller shape S) (At : Standing) (down : (x : Point) (ca da cb db : List ℕ) → At x ca da cb db → AgreeAt m x ca da cb db)
     (up : (x : Point) (ca da cb db : List ℕ) → At x ca da cb db → (cn : ℕ) (off : ℤ) → met m.text text x.pair.addr ≡ Some (Jump cn off) → (y : Point) (pa qa pb qb : List ℕ) → kept 0 (add16 x.pair.addr 2) ≤ y.pair.addr → AgreeAt m y pa qa pb qb → At y pa qa pb qb)
@@ -470,7 +520,7 @@ module _ (terms : Terms) (key : List ℕ) (m : Module) (text : List ℕ) (caller
     start_of_arm t = arm_start (Jump cn off) (cond t target (add16 pc0 2)) x (core_of t)
 
     abbrev walk_of : Bool → Walk
-    walk_of t = walk S m text pc0 arm.join (suc arm.join) (start_of_arm t)
+    walk_of t = walk S m text arm.join (suc arm.join) (start_of_arm t)
 
     abbrev jumped : Bool → List ℕ → List ℕ
     jumped t c = confined true c (cond t (put (past (Jump cn off) c) 0 (add16 (reg (past (Jump cn off) c) 0) (distance off))) (past (Jump cn off) c))
@@ -483,20 +533,22 @@ module _ (terms : Terms) (key : List ℕ) (m : Module) (text : List ℕ) (caller
       here : reg core 0 ≡ arm.join
       fine : (v : List Val) × AgreeCore m.text v core core
       is_data : IsData m data_left
-      regs : (k : ℕ) → k ≢ 0 → k ≢ 2 → NotIn k (walk_of t).regs → reg core k ≡ reg c k
-      words : (i : ℕ) → NotIn i (walk_of t).words → word data_left i ≡ word d i
+      regs : (k : ℕ) → k ≢ 0 → k ≢ 2 → NotIn k (walk_regs (walk_of t)) → reg core k ≡ reg c k
+      words : (i : ℕ) → NotIn i (walk_words (walk_of t)) → word data_left i ≡ word d i
       sr : mode (reg core 2) ≡ mode (reg c 2)
 
-    arm_crossed : (t : Bool) (c d : List ℕ) → AgreeAt m x c d c d → jumps cn (reg c 2) ≡ t → holds m.text arm.join ≡ true → (walk_of t).reasons ≡ [] → (walk_of t).cycles ≡ arm.cycles → Crossed t c d
+    arm_crossed : (t : Bool) (c d : List ℕ) → AgreeAt m x c d c d → jumps cn (reg c 2) ≡ t → MeetsJoin (walk_of t) →
+        time_to (walk_of t) ≡ arm.cycles → Crossed t c d
     unfolding asks plan
-    arm_crossed t c d self turn inn none time =
+    arm_crossed t c d self turn meets time =
         let ev : pc0 % 2 ≡ 0 = ap (λ i. i % 2) (sym self.pc_a) ∙ self.core.even_pc in
         let ways = way_agrees terms key m text caller shape cn off x c d c d self met_it t in
         let first : Passes jj 2 (at_rest c d) (at_rest (jumped t c) d) =
         does_it jj c d (jumped t c) d (Jump cn off) 1 false
         (fetched terms key m text caller shape c d (Jump cn off) self.core.even_pc (ap (λ a. holds m.text a) self.pc_a ∙ self.in_text) (ap (λ a. met m.text text a) self.pc_a ∙ met_it) refl refl)
         (jump_so terms key m text caller shape cn off c d ∙ ap (λ t. after (jumped t c) d 1 false) turn) in
-        let w = walk_arm terms key m text caller shape S refine pc0 arm.join (suc arm.join) inn (start_of_arm t) (jumped t c) d (record { pc = lands_at t c self.pc_a ev self.core.long_a; core = from_ways t ways; words = self.words }) none in
+        let w = walk_arm terms key m text caller shape S refine arm.join (suc arm.join) (start_of_arm t) (jumped t c) d
+        (record { pc = lands_at t c self.pc_a ev self.core.long_a; core = from_ways t ways; words = self.words }) meets in
         record {
           core = w.core;
           data_left = w.data_left;
@@ -536,19 +588,28 @@ module _ (terms : Terms) (key : List ℕ) (m : Module) (text : List ℕ) (caller
             stays : add16 pc0 2 ≡ kept 0 (add16 pc0 2)
             stays = omega arith
 
-    pick : (t : Bool) (k : ℕ) → NotIn k ((walk_of false).regs ++ (walk_of true).regs) → NotIn k (walk_of t).regs
-    pick true k free = not_right k (walk_of false).regs (walk_of true).regs free
-    pick false k free = not_left k (walk_of false).regs (walk_of true).regs free
+    pick : (t : Bool) (k : ℕ) → NotIn k (walk_regs (walk_of false)) → NotIn k (walk_regs (walk_of true)) →
+        NotIn k (walk_regs (walk_of t))
+    pick true k free0 free1 = free1
+    pick false k free0 free1 = free0
 
-    pick_word : (t : Bool) (k : ℕ) → NotIn k ((walk_of false).words ++ (walk_of true).words) → NotIn k (walk_of t).words
-    pick_word true k free = not_right k (walk_of false).words (walk_of true).words free
-    pick_word false k free = not_left k (walk_of false).words (walk_of true).words free
+    pick_word : (t : Bool) (k : ℕ) → NotIn k (walk_words (walk_of false)) → NotIn k (walk_words (walk_of true)) →
+        NotIn k (walk_words (walk_of t))
+    pick_word true k free0 free1 = free1
+    pick_word false k free0 free1 = free0
 
-    abbrev joined_core : List Val
-    joined_core = set (blot_core ((walk_of false).regs ++ (walk_of true).regs) x.label.core) 0 (Known arm.join)
+    -- Secret where the arm writes that the jump does not take, and where either does
+    abbrev blot_first : Label
+    blot_first = blot (walk_of false) x.label
+
+    abbrev blot_both : Label
+    blot_both = blot (walk_of true) blot_first
 
     abbrev joined_point : Point
-    joined_point = record { pair = record { addr = arm.join; returns = x.pair.returns }; label = record { core = joined_core; words = set_each ((walk_of false).words ++ (walk_of true).words) Secret x.label.words } }
+    joined_point = record {
+      pair = record { addr = arm.join; returns = x.pair.returns };
+      label = record { core = set blot_both.core 0 (Known arm.join); words = blot_both.words };
+    }
 
     joined_at : (ta tb : Bool) (p : Crossed ta ca da) (q : Crossed tb cb db) → holds m.text arm.join ≡ true → AgreeAt m joined_point p.core p.data_left q.core q.data_left
     joined_at ta tb p q inn =
@@ -556,7 +617,9 @@ module _ (terms : Terms) (key : List ℕ) (m : Module) (text : List ℕ) (caller
           pc_a = p.here;
           pc_b = q.here;
           core = record {
-            short = subst (λ i. i ≤ 16) (sym (length-set (blot_core ((walk_of false).regs ++ (walk_of true).regs) x.label.core) 0 (Known arm.join) ∙ blot_core_long ((walk_of false).regs ++ (walk_of true).regs) x.label.core)) at.core.short;
+            short =
+                let same = length-set blot_both.core 0 (Known arm.join) ∙ blot_long (walk_of true) blot_first ∙ blot_long (walk_of false) x.label in
+                subst (λ i. i ≤ 16) (sym same) at.core.short;
             long_a = p.fine.1.long_a;
             long_b = q.fine.1.long_a;
             at = λ n. by n (n == 0) refl;
@@ -570,25 +633,26 @@ module _ (terms : Terms) (key : List ℕ) (m : Module) (text : List ℕ) (caller
           words = record {
             is_a = p.is_data;
             is_b = q.is_data;
-            at = λ i. blot_at m.text ((walk_of false).words ++ (walk_of true).words) x.label.words i (word p.data_left i) (word q.data_left i)
-                (λ free. subst (λ a. Agrees m.text (nth i x.label.words Secret) a (word q.data_left i)) (sym (p.words i (pick_word ta i free)))
-                (subst (λ b. Agrees m.text (nth i x.label.words Secret) (word da i) b) (sym (q.words i (pick_word tb i free))) (at.words.at i)));
+            at = λ i. walk_blots_word m.text (walk_of true) blot_first i (word p.data_left i) (word q.data_left i)
+                (λ free1. walk_blots_word m.text (walk_of false) x.label i (word p.data_left i) (word q.data_left i)
+                (λ free0. subst (λ a. Agrees m.text (nth i x.label.words Secret) a (word q.data_left i)) (sym (p.words i (pick_word ta i free0 free1)))
+                (subst (λ b. Agrees m.text (nth i x.label.words Secret) (word da i) b) (sym (q.words i (pick_word tb i free0 free1))) (at.words.at i))));
           };
           in_text = inn;
         }
       where
         blotted : List Val
-        blotted = blot_core ((walk_of false).regs ++ (walk_of true).regs) x.label.core
+        blotted = blot_both.core
 
         is_flag : (v : Val) → is_secret v ≡ true → (a b : ℕ) → Agrees m.text v a b
         is_flag Secret e a b = tt
         is_flag _ e a b = absurd cc
 
-        others : (n : ℕ) → n ≢ 0 → (t : Bool) → (n == 2) ≡ t → NotIn n ((walk_of false).regs ++ (walk_of true).regs) → Agrees m.text (val x.label.core n) (reg p.core n) (reg q.core n)
-        others n n0 true e free = let k : n ≡ 2 = grind (arith, nat_tests) in subst (λ i. Agrees m.text (val x.label.core i) (reg p.core n) (reg q.core n)) (sym k) (is_flag (val x.label.core 2) secret (reg p.core n) (reg q.core n))
-        others n n0 false e free =
+        others : (n : ℕ) → n ≢ 0 → (t : Bool) → (n == 2) ≡ t → NotIn n (walk_regs (walk_of false)) → NotIn n (walk_regs (walk_of true)) → Agrees m.text (val x.label.core n) (reg p.core n) (reg q.core n)
+        others n n0 true e free0 free1 = let k : n ≡ 2 = grind (arith, nat_tests) in subst (λ i. Agrees m.text (val x.label.core i) (reg p.core n) (reg q.core n)) (sym k) (is_flag (val x.label.core 2) secret (reg p.core n) (reg q.core n))
+        others n n0 false e free0 free1 =
             let n2 : n ≢ 2 = grind (arith, nat_tests) in
-            subst (λ a. Agrees m.text (val x.label.core n) a (reg q.core n)) (sym (p.regs n n0 n2 (pick ta n free))) (subst (λ b. Agrees m.text (val x.label.core n) (reg ca n) b) (sym (q.regs n n0 n2 (pick tb n free))) (at.core.at n))
+            subst (λ a. Agrees m.text (val x.label.core n) a (reg q.core n)) (sym (p.regs n n0 n2 (pick ta n free0 free1))) (subst (λ b. Agrees m.text (val x.label.core n) (reg ca n) b) (sym (q.regs n n0 n2 (pick tb n free0 free1))) (at.core.at n))
 
         zeros : (n : ℕ) → n ≡ 3 → (reg p.core n ≡ 0) × (reg q.core n ≡ 0)
         zeros n e = (ap (λ i. reg p.core i) e ∙ p.fine.1.zero_a, ap (λ i. reg q.core i) e ∙ q.fine.1.zero_a)
@@ -602,31 +666,24 @@ module _ (terms : Terms) (key : List ℕ) (m : Module) (text : List ℕ) (caller
         by n false e =
             let n0 : n ≢ 0 = grind (arith, nat_tests) in
             subst (λ u. Agrees m.text u (reg p.core n) (reg q.core n)) (sym (get_or-set_other blotted 0 n (Known arm.join) Secret n0))
-            (blot_core_at m.text ((walk_of false).regs ++ (walk_of true).regs) x.label.core n (reg p.core n) (reg q.core n) (zeros n) (others n n0 (n == 2) refl))
+            (walk_blots m.text (walk_of true) blot_first n (reg p.core n) (reg q.core n) (zeros n)
+            (λ free1. walk_blots m.text (walk_of false) x.label n (reg p.core n) (reg q.core n) (zeros n) (λ free0. others n n0 (n == 2) refl free0 free1)))
 
     arm_crossing : At x ca da cb db → (step_arm S m text (Jump cn off) target arm x).reasons ≡ [] → Crossing terms m jj At (step_arm S m text (Jump cn off) target arm x).gives (at_rest ca da) (at_rest cb db)
     unfolding does_val
     arm_crossing standing none =
         let r0 = because_if (not (holds m.text arm.join)) pc0 ArmInsn arm.join in
-        let w0 = walk_of false in
-        let w1 = walk_of true in
-        let b0 = because_if (not (w0.cycles == arm.cycles)) pc0 ArmTime 0 in
-        let b1 = because_if (not (w1.cycles == arm.cycles)) pc0 ArmTime 1 in
-        let n1 : (r0 ++ w0.reasons ++ w1.reasons ++ b0) ≡ [] = none_left (r0 ++ w0.reasons ++ w1.reasons ++ b0) b1 none in
-        let n2 : b1 ≡ [] = none_right (r0 ++ w0.reasons ++ w1.reasons ++ b0) b1 none in
-        let n3 : (r0 ++ w0.reasons ++ w1.reasons) ≡ [] = none_left (r0 ++ w0.reasons ++ w1.reasons) b0 n1 in
-        let n4 : b0 ≡ [] = none_right (r0 ++ w0.reasons ++ w1.reasons) b0 n1 in
-        let n5 : (r0 ++ w0.reasons) ≡ [] = none_left (r0 ++ w0.reasons) w1.reasons n3 in
-        let n6 : w1.reasons ≡ [] = none_right (r0 ++ w0.reasons) w1.reasons n3 in
-        let n7 : r0 ≡ [] = none_left r0 w0.reasons n5 in
-        let n8 : w0.reasons ≡ [] = none_right r0 w0.reasons n5 in
-        let inn : holds m.text arm.join ≡ true = not_not (holds m.text arm.join) (none_if (not (holds m.text arm.join)) pc0 ArmInsn arm.join n7) in
-        let t0 : w0.cycles ≡ arm.cycles = same_time w0.cycles (not_not (w0.cycles == arm.cycles) (none_if (not (w0.cycles == arm.cycles)) pc0 ArmTime 0 n4)) in
-        let t1 : w1.cycles ≡ arm.cycles = same_time w1.cycles (not_not (w1.cycles == arm.cycles) (none_if (not (w1.cycles == arm.cycles)) pc0 ArmTime 1 n2)) in
+        let rs0 = arm_reasons pc0 arm.cycles 0 (walk_of false) in
+        let rs1 = arm_reasons pc0 arm.cycles 1 (walk_of true) in
+        let both : (r0 ++ rs0) ≡ [] = none_left (r0 ++ rs0) rs1 none in
+        let inn : holds m.text arm.join ≡ true =
+        not_not (holds m.text arm.join) (none_if (not (holds m.text arm.join)) pc0 ArmInsn arm.join (none_left r0 rs0 both)) in
+        let t0 = on_time pc0 arm.cycles 0 (walk_of false) (none_right r0 rs0 both) in
+        let t1 = on_time pc0 arm.cycles 1 (walk_of true) (none_right (r0 ++ rs0) rs1 none) in
         let ta = jumps cn (reg ca 2) in
         let tb = jumps cn (reg cb 2) in
-        let p = arm_crossed ta ca da (at_self terms key m text caller shape x ca da cb db at) refl inn (pick_none ta n8 n6) (pick_time ta t0 t1) in
-        let q = arm_crossed tb cb db (at_other terms key m text caller shape x ca da cb db at) refl inn (pick_none tb n8 n6) (pick_time tb t0 t1) in
+        let p = arm_crossed ta ca da (at_self terms key m text caller shape x ca da cb db at) refl (pick_meets ta t0.0 t1.0) (pick_time ta t0.1 t1.1) in
+        let q = arm_crossed tb cb db (at_other terms key m text caller shape x ca da cb db at) refl (pick_meets tb t0.0 t1.0) (pick_time tb t0.1 t1.1) in
         record {
           cycles = 2 + arm.cycles;
           some = omega arith;
@@ -634,21 +691,18 @@ module _ (terms : Terms) (key : List ℕ) (m : Module) (text : List ℕ) (caller
           to_b = at_rest q.core q.data_left;
           pass_a = p.pass;
           pass_b = q.pass;
-          ending = Stays joined_point (inl refl) p.core p.data_left q.core q.data_left (up x ca da cb db standing cn off met_it joined_point p.core p.data_left q.core q.data_left (walk_reach terms key m text caller shape S refine pc0 arm.join (suc arm.join) (start_of_arm false) n8) (joined_at ta tb p q inn)) refl refl;
+          ending = Stays joined_point (inl refl) p.core p.data_left q.core q.data_left (up x ca da cb db standing cn off met_it joined_point p.core p.data_left q.core q.data_left (walk_reach terms key m text caller shape S refine arm.join (suc arm.join) (start_of_arm false) t0.0) (joined_at ta tb p q inn)) refl refl;
         }
       where
         not_not : (b : Bool) → not b ≡ false → b ≡ true
         not_not true e = refl
         not_not false e = absurd cc
 
-        same_time : (n : ℕ) → (n == arm.cycles) ≡ true → n ≡ arm.cycles
-        same_time n e = grind (arith, nat_tests)
+        pick_meets : (t : Bool) → MeetsJoin (walk_of false) → MeetsJoin (walk_of true) → MeetsJoin (walk_of t)
+        pick_meets true p q = q
+        pick_meets false p q = p
 
-        pick_none : (t : Bool) → (walk_of false).reasons ≡ [] → (walk_of true).reasons ≡ [] → (walk_of t).reasons ≡ []
-        pick_none true p q = q
-        pick_none false p q = p
-
-        pick_time : (t : Bool) → (walk_of false).cycles ≡ arm.cycles → (walk_of true).cycles ≡ arm.cycles → (walk_of t).cycles ≡ arm.cycles
+        pick_time : (t : Bool) → time_to (walk_of false) ≡ arm.cycles → time_to (walk_of true) ≡ arm.cycles → time_to (walk_of t) ≡ arm.cycles
         pick_time true p q = q
         pick_time false p q = p
 

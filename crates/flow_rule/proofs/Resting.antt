@@ -18,8 +18,8 @@ use Rattle.mod_layout.specs.Table.{holds}
 use Rattle.cpu_step.specs.Fetched.{insn_at, later_word, word_in, insn_from}
 use Rattle.arm_balance.specs.declared.Arm.{Arm}
 use Rattle.arm_balance.specs.Met.{text_byte, met}
-use Rattle.arm_balance.specs.Balance.{met_cycles, arm_next, arm_on}
-use Rattle.flow_rule.proofs.Walks.{met_regs, met_words, is_met, met_none}
+use Rattle.arm_balance.specs.Balance.{arm_next, arm_on}
+use Rattle.flow_rule.proofs.Walks.{met_words, MeetsJoin, with_met, is_met, met_rest, on_time}
 use Rattle.flow_rule.specs.Terms.{Terms}
 use Rattle.flow_rule.specs.declared.Val.{Val}
 use Rattle.flow_rule.specs.declared.Val.TheVariants.{Known, Secret}
@@ -36,9 +36,9 @@ use Rattle.flow_rule.specs.Steps.{step_plain, step_jump, step_insn, step_of}
 use Rattle.flow_rule.proofs.Goes.{goes_in, goes_unless}
 use Rattle.flow_rule.specs.Stub.{word_number, is_open, shut_reasons, shut_if, step_entries, step_stub, has_stub}
 use Rattle.flow_rule.specs.Verdict.{flow_step}
-use Rattle.flow_rule.specs.Arms.{Walk, ended, written_words, walked, walk_past, walk_on, walk, first_walk, second_walk, step_arm}
+use Rattle.flow_rule.specs.Arms.{Walk, Meets, written_words, walked, walk_on, walk, arm_start, first_walk, second_walk, arm_reasons, step_arm}
 use Rattle.flow_rule.specs.Absorbs.{Absorbs}
-use Rattle.flow_rule.proofs.Plans.{none_left, none_right, none_if}
+use Rattle.flow_rule.proofs.Plans.{none_left, none_right}
 use Rattle.flow_rule.proofs.Stub.{stub_facts}
 use Rattle.flow_rule.proofs.Absorbing.{AbsorbsVal, AbsorbsEach, of_joins, nth_keeps, past_keeps, EvenPc}
 use Rattle.flow_rule.proofs.AbsorbingDone.{same_plan, reads_keep, writes_keep, does_keeps}
@@ -306,48 +306,38 @@ module _ (terms : Terms) (m : Module) (text : List ℕ) where
               ∙ none_right from_top.reasons (shut_reasons m pc from_top.gives) none
 
   -- ---- walks
-  module _ (S : Point → Step) (alike : Alike S) (branch join : ℕ) (inn : holds m.text join ≡ true) where
+  module _ (S : Point → Step) (alike : Alike S) (join : ℕ) where
     -- to the join, in so many steps
     abbrev onward : ℕ → Point → Walk
-    onward fuel x = walk S m text branch join fuel x
+    onward fuel x = walk S m text join fuel x
 
     abbrev Same : ℕ → Type 0
-    Same fuel = (y z : Point) → Near y z → (onward fuel y).reasons ≡ [] → onward fuel z ≡ onward fuel y
+    Same fuel = (y z : Point) → Near y z → MeetsJoin (onward fuel y) → onward fuel z ≡ onward fuel y
 
     -- after this step of a point
     abbrev further : ℕ → ℕ → Step → Point → Walk
-    further fuel next s x =
-        walk_past s.reasons s.gives branch next m text x (onward fuel)
+    further fuel next s x = walk_on (Some next) s.reasons s.gives m text x (onward fuel)
 
     walk_more : (fuel next pc : ℕ) (r q : List ℕ) (top low : Label) → pc % 2 ≡ 0 → holds m.text pc ≡ true →
         arm_next join pc (met m.text text pc) ≡ Some next → Over top low → Same fuel →
-        (s : Step) → S (point pc r top) ≡ s → (further fuel next s (point pc r top)).reasons ≡ [] →
+        (s : Step) → S (point pc r top) ≡ s → MeetsJoin (further fuel next s (point pc r top)) →
         further fuel next (S (point pc q low)) (point pc q low) ≡ further fuel next s (point pc r top)
-    walk_more fuel next pc r q top low even here on o go s es none =
-        by s.reasons s.gives (ap (λ s. s.reasons) es) (ap (λ s. s.gives) es) none
+    walk_more fuel next pc r q top low even here on o go s es meets =
+        by s.reasons s.gives (ap (λ s. s.reasons) es) (ap (λ s. s.gives) es) meets
       where
         it : Option Insn
         it = met m.text text pc
-
-        with_words : List ℕ → Walk → Walk
-        with_words ws rest =
-            record {
-              reasons = rest.reasons;
-              cycles = met_cycles it + rest.cycles;
-              regs = met_regs it ++ rest.regs;
-              words = ws ++ rest.words;
-            }
 
         first_same : (a b : Point) (bs : List Point) → a ∷ [] ≡ b ∷ bs → a ≡ b
         first_same a b bs e = cc
 
         by : (rs : List Found) (gs : List Point) → (S (point pc r top)).reasons ≡ rs → (S (point pc r top)).gives ≡ gs →
-            (further fuel next (record { reasons = rs; gives = gs }) (point pc r top)).reasons ≡ [] →
+            MeetsJoin (further fuel next (record { reasons = rs; gives = gs }) (point pc r top)) →
             further fuel next (S (point pc q low)) (point pc q low)
             ≡ further fuel next (record { reasons = rs; gives = gs }) (point pc r top)
-        by (x ∷ rs) gs er eg none = absurd cc
-        by [] [] er eg none = absurd cc
-        by [] (y ∷ ys) er eg none =
+        by (x ∷ rs) gs er eg meets = absurd meets
+        by [] [] er eg meets = absurd meets
+        by [] (y ∷ ys) er eg meets =
             let k = alike join next pc r q top low even here on o er (record { first = y; rest = ys; gives = eg }) in
             let l = k.leads in
             let e : l.y ≡ y = first_same _ _ _ (sym l.to_y ∙ eg) in
@@ -355,40 +345,41 @@ module _ (terms : Terms) (m : Module) (text : List ℕ) where
             ap (λ rs. further fuel next (record { reasons = rs; gives = (S (point pc q low)).gives }) (point pc q low))
             l.none
             ∙ ap (λ gs. further fuel next (record { reasons = []; gives = gs }) (point pc q low)) l.to_z
-            ∙ ap (walked it m (point pc q low)) (go y l.z near (met_none it m (point pc r top) (onward fuel y) none))
-            ∙ is_met it m (point pc q low) (onward fuel y) ∙ ap (λ ws. with_words ws (onward fuel y)) (k.same_words r q)
+            ∙ ap (walked it m (point pc q low)) (go y l.z near (met_rest it m (point pc r top) (onward fuel y) meets))
+            ∙ is_met it m (point pc q low) (onward fuel y)
+            ∙ ap (λ ws. with_met it ws (onward fuel y)) (k.same_words r q)
             ∙ sym (is_met it m (point pc r top) (onward fuel y))
 
     -- a step more, by whether the join is here and by where an instruction of an arm goes on
     abbrev onward_by : ℕ → Bool → Option ℕ → Point → Walk
-    onward_by fuel c n x = cond c ended (walk_on n (S x) branch m text x (onward fuel))
+    onward_by fuel c n x = cond c (Meets 0 [] []) (walk_on n (S x).reasons (S x).gives m text x (onward fuel))
 
     walk_at : (fuel pc : ℕ) (r q : List ℕ) (top low : Label) → pc % 2 ≡ 0 → Over top low → Same fuel →
-        (onward (suc fuel) (point pc r top)).reasons ≡ [] →
+        MeetsJoin (onward (suc fuel) (point pc r top)) →
         onward (suc fuel) (point pc q low) ≡ onward (suc fuel) (point pc r top)
-    walk_at fuel pc r q top low even o go none = by (pc == join) (arm_on m.text text join pc) refl none
+    walk_at fuel pc r q top low even o go meets = by (pc == join) (arm_on m.text text join pc) refl meets
       where
         on : (a b : Bool) (next : ℕ) → holds m.text pc ≡ a →
             cond (a && b) (arm_next join pc (met m.text text pc)) None ≡ Some next →
-            (onward_by fuel false (Some next) (point pc r top)).reasons ≡ [] →
+            MeetsJoin (onward_by fuel false (Some next) (point pc r top)) →
             onward_by fuel false (Some next) (point pc q low) ≡ onward_by fuel false (Some next) (point pc r top)
-        on true true next here e none = walk_more fuel next pc r q top low even here e o go _ refl none
-        on true false next here e none = absurd cc
-        on false b next here e none = absurd cc
+        on true true next here e meets = walk_more fuel next pc r q top low even here e o go _ refl meets
+        on true false next here e meets = absurd cc
+        on false b next here e meets = absurd cc
 
         by : (c : Bool) (n : Option ℕ) → arm_on m.text text join pc ≡ n →
-            (onward_by fuel c n (point pc r top)).reasons ≡ [] →
+            MeetsJoin (onward_by fuel c n (point pc r top)) →
             onward_by fuel c n (point pc q low) ≡ onward_by fuel c n (point pc r top)
-        by true n e none = refl
-        by false None e none = absurd cc
-        by false (Some next) e none = on (holds m.text pc) (nat_lt pc join) next refl e none
+        by true n e meets = refl
+        by false None e meets = absurd meets
+        by false (Some next) e meets = on (holds m.text pc) (nat_lt pc join) next refl e meets
 
     walk_same : (fuel : ℕ) → Same fuel
-    walk_same zero y z near none = absurd cc
-    walk_same (suc fuel) y z near none =
+    walk_same zero y z near meets = absurd meets
+    walk_same (suc fuel) y z near meets =
         subst (λ a. onward (suc fuel) (point a z.pair.returns z.label) ≡ onward (suc fuel) y) (sym near.addr)
         (walk_at fuel y.pair.addr y.pair.returns z.pair.returns y.label z.label near.even near.over
-        (walk_same fuel) none)
+        (walk_same fuel) meets)
 
   -- ---- both arms of a branch
   abbrev Rests : (Point → Step) → Insn → ℕ → Arm → Point → Point → Type 0
@@ -404,22 +395,25 @@ module _ (terms : Terms) (m : Module) (text : List ℕ) where
       Rests S insn target arm (point pc r top) (point pc q low)
   arms_same S alike insn target arm pc r q top low o none =
       let apart = because_if (not (holds m.text arm.join)) pc ArmInsn arm.join in
-      let both = none_left _ _ (none_left _ _ none) in
-      let one = none_left _ _ both in
-      let inn = inside (holds m.text arm.join) (none_if _ pc ArmInsn arm.join (none_left apart _ one)) in
+      let w0 = first_walk S m text insn arm (point pc r top) in
+      let w1 = second_walk S m text insn target arm (point pc r top) in
+      let rs0 = arm_reasons pc arm.cycles 0 w0 in
+      let rs1 = arm_reasons pc arm.cycles 1 w1 in
+      let one : (apart ++ rs0) ≡ [] = none_left (apart ++ rs0) rs1 none in
       let k = does_keeps insn pc top.core low.core [] [] o.core tt in
       let first : Over _ _ = record { core = past_keeps insn pc top.core low.core o.core; words = o.words } in
       let second : Over _ _ = record { core = k.core_kept; words = o.words } in (
-        walk_same S alike pc arm.join inn (suc arm.join) _ _
-            (record { addr = refl; even = kept_even (add16 pc 2); over = first }) (none_right apart _ one),
-        walk_same S alike pc arm.join inn (suc arm.join) _ _
+        walk_same S alike arm.join (suc arm.join)
+            (arm_start insn (add16 pc 2) (point pc r top) (past_val insn pc top.core))
+            (arm_start insn (add16 pc 2) (point pc q low) (past_val insn pc low.core))
+            (record { addr = refl; even = kept_even (add16 pc 2); over = first })
+            (on_time pc arm.cycles 0 w0 (none_right apart rs0 one)).0,
+        walk_same S alike arm.join (suc arm.join)
+            (arm_start insn target (point pc r top) (does_val insn pc top.core []).core)
+            (arm_start insn target (point pc q low) (does_val insn pc low.core []).core)
             (record { addr = refl; even = kept_even target; over = second })
-            (none_right (apart ++ (first_walk S m text insn arm (point pc r top)).reasons) _ both),
+            (on_time pc arm.cycles 1 w1 (none_right (apart ++ rs0) rs1 none)).0,
       )
-    where
-      inside : (b : Bool) → not b ≡ false → b ≡ true
-      inside true e = refl
-      inside false e = absurd cc
 
   pub arms_rest : (insn : Insn) (target : ℕ) (arm : Arm) (top x : Point) → m.text.start % 2 ≡ 0 →
       x.pair.addr ≡ top.pair.addr → Absorbs top.label x.label →

@@ -12,7 +12,7 @@ use Rattle.flow_rule.specs.Rounds.{Point, Found, rounds, all_reasons}
 use Rattle.flow_rule.specs.Does.{plan_val, does_val}
 use Rattle.cycle_table.specs.Cycles.{cycles_of}
 use Rattle.arm_balance.specs.declared.Arm.{Arm}
-use Rattle.flow_rule.specs.Arms.{Walk, refused, first_walk, second_walk, flow_under, step_arms}
+use Rattle.flow_rule.specs.Arms.{Walk, Meets, Stops, first_walk, second_walk, flow_under, step_arms}
 use Rattle.flow_rule.specs.Reasons.{because}
 use Rattle.flow_rule.specs.Steps.{step_of}
 use Rattle.flow_rule.specs.Stub.{step_stub, has_stub}
@@ -124,7 +124,7 @@ branch_told x =
     )
 
 arm_writes : Walk
-arm_writes = record { reasons = []; cycles = 6; regs = []; words = 0 ∷ [] }
+arm_writes = Meets 6 [] (0 ∷ [])
 
 branch_top : branch_told (branch_at (Known 0x0400) Secret Secret) ≡ (arm_writes, arm_writes)
 unfolding branch_told arm_writes branch_text bytes_of met step_of step_stub has_stub plan_val does_val insn_of cycles_of
@@ -135,6 +135,6 @@ unfolding branch_told arm_writes branch_text bytes_of met step_of step_stub has_
 branch_low = refl
 
 -- where R4 is not known, the arms have reasons, and no label is spoken of
-branch_lost : branch_told (branch_at Public Secret Secret) ≡ (refused 0x0300 0x0302, refused 0x0300 0x0308)
+branch_lost : branch_told (branch_at Public Secret Secret) ≡ (Stops 0x0302, Stops 0x0308)
 unfolding branch_told branch_text bytes_of met step_of step_stub has_stub plan_val does_val insn_of cycles_of
 branch_lost = refl

@@ -1,11 +1,14 @@
 -- What is met at a point of an arm adds its cycles and what it writes to the rest of the walk.
-use Rattle.std.proofs.Common.{◌≡◌, ℕ, ◌+◌, List, [], ◌++◌, refl, ap, arith, Option, Some, None}
+use Rattle.std.proofs.Common.{◌≡◌, ℕ, ◌+◌, ◌==◌, List, [], ◌++◌, refl, ap, arith, Bool, true, false, not, Option, Some, None}
+use Rattle.std.proofs.lemmas.Bool.Decides.{nat_tests}
 use Rattle.insn_decode.specs.declared.insn.Insn.{Insn}
 use Rattle.mod_layout.specs.declared.Module.{Module}
 use Rattle.arm_balance.specs.Balance.{met_cycles}
+use Rattle.flow_rule.specs.declared.Reason.TheVariants.{ArmTime}
 use Rattle.flow_rule.specs.Rounds.{Point}
 use Rattle.flow_rule.specs.Does.{plan_val, write_reaches}
-use Rattle.flow_rule.specs.Arms.{written_regs, written_words, Walk, walked}
+use Rattle.flow_rule.specs.Reasons.{because_if}
+use Rattle.flow_rule.specs.Arms.{written_regs, written_words, Walk, Meets, Stops, walked, arm_reasons}
 
 abbrev pub met_regs : Option Insn → List ℕ
 met_regs None = []
@@ -15,15 +18,49 @@ abbrev pub met_words : Option Insn → Module → Point → List ℕ
 met_words None m x = []
 met_words (Some insn) m x = written_words m (write_reaches (plan_val insn x.pair.addr x.label.core))
 
-abbrev pub with_met : Option Insn → Module → Point → Walk → Walk
-with_met o m x rest =
-    record { reasons = rest.reasons; cycles = met_cycles o + rest.cycles; regs = met_regs o ++ rest.regs; words = met_words o m x ++ rest.words }
+-- a walk that comes to the join
+abbrev pub MeetsJoin : Walk → Type 0
+MeetsJoin (Meets cycles regs words) = Unit {0}
+MeetsJoin (Stops addr) = ⊥
 
-pub is_met : (o : Option Insn) (m : Module) (x : Point) (rest : Walk) → walked o m x rest ≡ with_met o m x rest
-is_met None m x rest = ap (λ c. record rest { cycles = c }) (let e : rest.cycles ≡ 0 + rest.cycles = omega arith in e)
-is_met (Some insn) m x rest = refl
+-- its cycles, and what it writes
+abbrev pub time_to : Walk → ℕ
+time_to (Meets cycles regs words) = cycles
+time_to (Stops addr) = 0
 
--- the reasons of the rest
-pub met_none : (o : Option Insn) (m : Module) (x : Point) (rest : Walk) → (walked o m x rest).reasons ≡ [] → rest.reasons ≡ []
-met_none None m x rest e = e
-met_none (Some insn) m x rest e = e
+abbrev pub walk_regs : Walk → List ℕ
+walk_regs (Meets cycles regs words) = regs
+walk_regs (Stops addr) = []
+
+abbrev pub walk_words : Walk → List ℕ
+walk_words (Meets cycles regs words) = words
+walk_words (Stops addr) = []
+
+-- the rest of a walk behind what is met, which writes these words
+abbrev pub with_met : Option Insn → List ℕ → Walk → Walk
+with_met o ws (Meets cycles regs words) = Meets (met_cycles o + cycles) (met_regs o ++ regs) (ws ++ words)
+with_met o ws (Stops addr) = Stops addr
+
+pub is_met : (o : Option Insn) (m : Module) (x : Point) (rest : Walk) →
+    walked o m x rest ≡ with_met o (met_words o m x) rest
+is_met None m x (Meets cycles regs words) =
+    ap (λ n. Meets n regs words) (let e : cycles ≡ 0 + cycles = omega arith in e)
+is_met (Some insn) m x (Meets cycles regs words) = refl
+is_met None m x (Stops addr) = refl
+is_met (Some insn) m x (Stops addr) = refl
+
+-- the rest comes to the join too
+pub met_rest : (o : Option Insn) (m : Module) (x : Point) (rest : Walk) → MeetsJoin (walked o m x rest) → MeetsJoin rest
+met_rest o m x (Meets cycles regs words) meets = tt
+met_rest None m x (Stops addr) meets = meets
+met_rest (Some insn) m x (Stops addr) meets = meets
+
+-- an arm without a reason comes to the join in its time
+pub on_time : (branch time number : ℕ) (w : Walk) → arm_reasons branch time number w ≡ [] →
+    MeetsJoin w × (time_to w ≡ time)
+on_time branch time number (Meets cycles regs words) none = (tt, by (cycles == time) refl none)
+  where
+    by : (b : Bool) → (cycles == time) ≡ b → because_if (not b) branch ArmTime number ≡ [] → cycles ≡ time
+    by true e none = grind (arith, nat_tests)
+    by false e none = absurd cc
+on_time branch time number (Stops addr) none = absurd cc

@@ -15,6 +15,7 @@ use Rattle.insn_decode.specs.declared.insn.Insn.TheVariants.{Two, One, Jump}
 use Rattle.mod_layout.specs.declared.Module.{Module}
 use Rattle.mod_layout.specs.Table.{holds}
 use Rattle.flow_rule.specs.Terms.{Terms, no_terms}
+use Rattle.flow_rule.specs.declared.Label.{Label}
 use Rattle.flow_rule.specs.declared.Val.{Val}
 use Rattle.flow_rule.specs.declared.Val.TheVariants.{Known, Secret}
 use Rattle.flow_rule.specs.Values.{is_secret, set_each, val, put_val}
@@ -49,54 +50,59 @@ written_words m (x ∷ xs) = elim x.addr [ Known a ↦ word_no m a ∷ written_w
 abbrev pub blot_core : List ℕ → List Val → List Val
 blot_core regs core = fold (λ vs n. put_val vs n Secret) core regs
 
-pub record Walk : Type 0 where
-  pub reasons : List Found
-  pub cycles : ℕ
-  pub regs : List ℕ
-  pub words : List ℕ
+-- how an arm goes: to the join in so many cycles, writing these registers and words; or no further than this address,
+-- where no instruction of an arm stands, or one with a reason
+pub data Walk : Type 0 where
+  Meets : (cycles : ℕ) (regs words : List ℕ) → Walk
+  Stops : (addr : ℕ) → Walk
 
-abbrev pub ended : Walk
-ended = record { reasons = []; cycles = 0; regs = []; words = [] }
-
-abbrev pub refused : ℕ → ℕ → Walk
-refused branch pc = record { reasons = because branch ArmInsn pc; cycles = 0; regs = []; words = [] }
+-- Secret where a walk to the join writes
+abbrev pub blot : Walk → Label → Label
+blot (Meets cycles regs words) l = record { core = blot_core regs l.core; words = set_each words Secret l.words }
+blot (Stops addr) l = l
 
 -- an instruction of an arm, and the rest of it
 abbrev pub walked : Option Insn → Module → Point → Walk → Walk
 walked None m x rest = rest
-walked (Some insn) m x rest =
+walked (Some insn) m x (Stops addr) = Stops addr
+walked (Some insn) m x (Meets cycles regs words) =
     let ws = written_words m (write_reaches (plan_val insn x.pair.addr x.label.core)) in
-    record { reasons = rest.reasons; cycles = cycles_of insn + rest.cycles; regs = written_regs insn ++ rest.regs; words = ws ++ rest.words }
+    Meets (cycles_of insn + cycles) (written_regs insn ++ regs) (ws ++ words)
 
--- after a step with these reasons and gives; where it leaves the text, the address where it goes on is no arm instruction's
-abbrev pub walk_past : List Found → List Point → ℕ → ℕ → Module → List ℕ → Point → (Point → Walk) → Walk
-walk_past [] [] branch next m text x rest = refused branch next
-walk_past [] (y ∷ ys) branch next m text x rest = walked (met m.text text x.pair.addr) m x (rest y)
-walk_past (r ∷ rs) gs branch next m text x rest = refused branch x.pair.addr
-
-abbrev pub walk_on : Option ℕ → Step → ℕ → Module → List ℕ → Point → (Point → Walk) → Walk
-walk_on None s branch m text x rest = refused branch x.pair.addr
-walk_on (Some next) s branch m text x rest = walk_past s.reasons s.gives branch next m text x rest
+-- from a point, by where an arm goes on from its instruction, and by what its step gives: a step out of the text has no
+-- reason, and the arm stops at the address outside
+abbrev pub walk_on : Option ℕ → List Found → List Point → Module → List ℕ → Point → (Point → Walk) → Walk
+walk_on None rs gs m text x rest = Stops x.pair.addr
+walk_on (Some next) (r ∷ rs) gs m text x rest = Stops x.pair.addr
+walk_on (Some next) [] [] m text x rest = Stops next
+walk_on (Some next) [] (y ∷ ys) m text x rest = walked (met m.text text x.pair.addr) m x (rest y)
 
 -- from a point to the join, by these steps
-abbrev pub walk : (Point → Step) → Module → List ℕ → ℕ → ℕ → ℕ → Point → Walk
-walk step m text branch join zero x = refused branch x.pair.addr
-walk step m text branch join (suc fuel) x =
-    if x.pair.addr == join then ended
-    else walk_on (arm_on m.text text join x.pair.addr) (step x) branch m text x (walk step m text branch join fuel)
+abbrev pub walk : (Point → Step) → Module → List ℕ → ℕ → ℕ → Point → Walk
+walk step m text join zero x = Stops x.pair.addr
+walk step m text join (suc fuel) x =
+    let s = step x in
+    let rest = walk_on (arm_on m.text text join x.pair.addr) s.reasons s.gives m text x (walk step m text join fuel) in
+    if x.pair.addr == join then Meets 0 [] [] else rest
 
 -- where an arm begins: past the jump, or at its target
 abbrev pub arm_start : Insn → ℕ → Point → List Val → Point
 arm_start insn a x core = record { pair = record { addr = kept 0 a; returns = x.pair.returns }; label = record { core = core; words = x.label.words } }
 
--- what the arm tells that the jump does not take, and the arm that it takes
+-- along the arm that the jump does not take, and along the one that it takes
 abbrev pub first_walk : (Point → Step) → Module → List ℕ → Insn → Arm → Point → Walk
 first_walk step m text insn arm x =
-    let pc = x.pair.addr in walk step m text pc arm.join (suc arm.join) (arm_start insn (add16 pc 2) x (past_val insn pc x.label.core))
+    let pc = x.pair.addr in
+    walk step m text arm.join (suc arm.join) (arm_start insn (add16 pc 2) x (past_val insn pc x.label.core))
 
 abbrev pub second_walk : (Point → Step) → Module → List ℕ → Insn → ℕ → Arm → Point → Walk
 second_walk step m text insn target arm x =
-    let pc = x.pair.addr in walk step m text pc arm.join (suc arm.join) (arm_start insn target x (does_val insn pc x.label.core []).core)
+    walk step m text arm.join (suc arm.join) (arm_start insn target x (does_val insn x.pair.addr x.label.core []).core)
+
+-- an arm that stops has the reason Arm with the address, one of another time ArmTime with its number
+abbrev pub arm_reasons : ℕ → ℕ → ℕ → Walk → List Found
+arm_reasons branch time number (Meets cycles regs words) = because_if (not (cycles == time)) branch ArmTime number
+arm_reasons branch time number (Stops addr) = because branch ArmInsn addr
 
 -- the rule of a branch with a certificate
 abbrev pub step_arm : (Point → Step) → Module → List ℕ → Insn → ℕ → Arm → Point → Step
@@ -104,12 +110,13 @@ step_arm step m text insn target arm x =
     let pc = x.pair.addr in
     let w0 = first_walk step m text insn arm x in
     let w1 = second_walk step m text insn target arm x in
+    let l = blot w1 (blot w0 x.label) in
     record {
-      reasons = because_if (not (holds m.text arm.join)) pc ArmInsn arm.join ++ w0.reasons ++ w1.reasons
-          ++ because_if (not (w0.cycles == arm.cycles)) pc ArmTime 0 ++ because_if (not (w1.cycles == arm.cycles)) pc ArmTime 1;
+      reasons = because_if (not (holds m.text arm.join)) pc ArmInsn arm.join
+          ++ arm_reasons pc arm.cycles 0 w0 ++ arm_reasons pc arm.cycles 1 w1;
       gives = record {
         pair = record { addr = arm.join; returns = x.pair.returns };
-        label = record { core = slice_set (blot_core (w0.regs ++ w1.regs) x.label.core) 0 (Known arm.join); words = set_each (w0.words ++ w1.words) Secret x.label.words };
+        label = record { core = slice_set l.core 0 (Known arm.join); words = l.words };
       } ∷ [];
     }
 
