@@ -1,11 +1,12 @@
 -- What was blotted of a blank label, laid over another label's values, is these values blotted.
 use Rattle.std.proofs.Common.{◌≡◌, ℕ, zero, suc, List, [], ◌∷◌, length, set, refl, ap, ◌∙◌, arith, Bool, true, false, cond, ◌==◌}
 use Rattle.std.specs.Prelude.{replicate}
+use Rattle.flow_rule.specs.declared.Label.{Label}
 use Rattle.flow_rule.specs.declared.Val.{Val}
 use Rattle.flow_rule.specs.declared.Val.TheVariants.{Known, Public, Secret}
 use Rattle.flow_rule.specs.Values.{set_each, kept_val, put_val}
-use Rattle.flow_rule.specs.Arms.{blot_core}
-use Rattle.flow_check.specs.internal.Summaries.{laid, overlay}
+use Rattle.flow_rule.specs.Arms.{Walk, Meets, Stops, blot_core, blot}
+use Rattle.flow_check.specs.internal.Summaries.{blank, laid, overlay}
 
 over_set : (b c : List Val) (n : ℕ) (v : Val) → ((x : Val) → laid v x ≡ v) →
     overlay (set b n v) c ≡ set (overlay b c) n v
@@ -33,16 +34,29 @@ over_words : (ns : List ℕ) (b c : List Val) → overlay (set_each ns Secret b)
 over_words [] b c = refl
 over_words (n ∷ ns) b c = over_words ns (set b n Secret) c ∙ ap (set_each ns Secret) (over_set b c n Secret (λ x. refl))
 
-blank : (n : ℕ) (c : List Val) → length c ≡ n → overlay (replicate n Public) c ≡ c
-blank zero [] e = refl
-blank zero (x ∷ c) e = absurd (omega arith)
-blank (suc n) [] e = absurd (omega arith)
-blank (suc n) (x ∷ c) e = ap (λ i. x ∷ i) (blank n c (omega arith))
+over_public : (n : ℕ) (c : List Val) → length c ≡ n → overlay (replicate n Public) c ≡ c
+over_public zero [] e = refl
+over_public zero (x ∷ c) e = absurd (omega arith)
+over_public (suc n) [] e = absurd (omega arith)
+over_public (suc n) (x ∷ c) e = ap (λ i. x ∷ i) (over_public n c (omega arith))
 
-pub overlay_core : (ns : List ℕ) (core : List Val) → length core ≡ 16 →
-    overlay (blot_core ns (replicate 16 Public)) core ≡ blot_core ns core
-overlay_core ns core e = over_core ns (replicate 16 Public) core ∙ ap (blot_core ns) (blank 16 core e)
+-- a label over another
+abbrev pub over : Label → Label → Label
+over b l = record { core = overlay b.core l.core; words = overlay b.words l.words }
 
-pub overlay_words : (ns : List ℕ) (words : List Val) → length words ≡ 256 →
-    overlay (set_each ns Secret (replicate 256 Public)) words ≡ set_each ns Secret words
-overlay_words ns words e = over_words ns (replicate 256 Public) words ∙ ap (set_each ns Secret) (blank 256 words e)
+over_blank : (l : Label) → length l.core ≡ 16 → length l.words ≡ 256 → over blank l ≡ l
+over_blank l core words =
+    ap (λ v. record { core = v; words = overlay blank.words l.words }) (over_public 16 l.core core)
+    ∙ ap (λ v. record l { words = v }) (over_public 256 l.words words)
+
+over_blot : (w : Walk) (b l : Label) → over (blot w b) l ≡ blot w (over b l)
+over_blot (Meets cycles regs words) b l =
+    let ws = overlay (set_each words Secret b.words) l.words in
+    ap (λ v. record { core = v; words = ws }) (over_core regs b.core l.core)
+    ∙ ap (λ v. record { core = blot_core regs (overlay b.core l.core); words = v }) (over_words words b.words l.words)
+over_blot (Stops addr) b l = refl
+
+pub over_both : (w0 w1 : Walk) (l : Label) → length l.core ≡ 16 → length l.words ≡ 256 →
+    over (blot w1 (blot w0 blank)) l ≡ blot w1 (blot w0 l)
+over_both w0 w1 l core words =
+    over_blot w1 (blot w0 blank) l ∙ ap (blot w1) (over_blot w0 blank l ∙ ap (blot w0) (over_blank l core words))

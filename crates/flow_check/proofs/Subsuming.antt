@@ -1,21 +1,19 @@
 -- What one walk along the arms of a branch says of other states.
-use Rattle.std.proofs.Common.{◌≡◌, ◌≢◌, ℕ, zero, suc, set, get_or, take, drop, ◌<◌, ◌≤◌, List, [], ◌∷◌, ◌++◌, length, replicate, refl, sym, ap, ◌∙◌, subst, not, false, is_some, ◌==◌, arith, Option, Some, None}
+use Rattle.std.proofs.Common.{◌≡◌, ◌≢◌, ℕ, zero, suc, set, get_or, take, drop, ◌<◌, ◌≤◌, List, [], ◌∷◌, ◌++◌, length, refl, sym, ap, ◌∙◌, subst, not, false, is_some, arith, Option, Some, None}
 use Rattle.std.specs.List.{slice_get}
 use Rattle.std.proofs.lemmas.Option.{get_or_from_slice_get, slice_get_within}
 use Rattle.std.proofs.lemmas.List.Elements.{All-push, All-set}
 use Rattle.mod_layout.specs.declared.Module.{Module}
 use Rattle.mod_layout.specs.Table.{holds}
 use Rattle.flow_check.specs.declared.program.Program.{Program}
-use Rattle.flow_check.specs.internal.Programs.{base_flow, flow_at}
+use Rattle.flow_check.specs.internal.Programs.{flow_at, untaken_walk, taken_walk}
 use Rattle.flow_check.specs.internal.Terms.{terms_of}
 use Rattle.flow_rule.specs.declared.Val.{Val}
-use Rattle.flow_rule.specs.declared.Val.TheVariants.{Public, Secret}
-use Rattle.flow_rule.specs.Values.{set_each}
 use Rattle.flow_rule.specs.declared.Label.{Label}
-use Rattle.flow_rule.specs.declared.Reason.TheVariants.{Arm as ArmInsn, ArmTime}
+use Rattle.flow_rule.specs.declared.Reason.TheVariants.{Arm as ArmInsn}
 use Rattle.flow_rule.specs.Reasons.{because_if}
 use Rattle.flow_rule.specs.Rounds.{Found, Point, Step, given_by}
-use Rattle.flow_rule.specs.Arms.{Walk, first_walk, second_walk, blot_core}
+use Rattle.flow_rule.specs.Arms.{Walk, blot, arm_reasons}
 use Rattle.flow_rule.specs.Absorbs.{Absorbs, ArmsRest}
 use Rattle.flow_check.specs.declared.branch.BranchSite.{BranchSite}
 use Rattle.flow_check.specs.declared.summaries.Answer.TheVariants.{Open, Shut}
@@ -26,45 +24,29 @@ use Rattle.flow_check.specs.declared.call_string.CallString.{CallString}
 use Rattle.flow_check.specs.internal.Violations.{noted}
 use Rattle.flow_check.specs.internal.Points.{list_of, point_of, points_at, addrs_of}
 use Rattle.flow_check.proofs.Successors.{none_some, none_found}
-use Rattle.flow_check.proofs.Overlaying.{overlay_core, overlay_words}
+use Rattle.flow_check.proofs.Overlaying.{over, over_both}
 
--- the reasons of a branch, by what its arms tell
+-- the reasons of a branch, by how its arms go
 reasons_by : Module → BranchSite → ℕ → Walk → Walk → List Found
 reasons_by m c pc w0 w1 =
-    because_if (not (holds m.text c.arm.join)) pc ArmInsn c.arm.join ++ w0.reasons ++ w1.reasons
-    ++ because_if (not (w0.cycles == c.arm.cycles)) pc ArmTime 0 ++ because_if (not (w1.cycles == c.arm.cycles)) pc ArmTime 1
+    because_if (not (holds m.text c.arm.join)) pc ArmInsn c.arm.join
+    ++ arm_reasons pc c.arm.cycles 0 w0 ++ arm_reasons pc c.arm.cycles 1 w1
 
 module _ (rest : ArmsRest) (p : Program) (c : BranchSite) (top x : Point) (pc : x.pair.addr ≡ top.pair.addr) (h : Absorbs top.label x.label) (calm : (flow_at p c top).reasons ≡ [])
   where
-    abbrev first_of : Point → Walk
-    first_of = first_walk (base_flow p) p.module.now p.text.now c.insn c.arm
-
-    abbrev second_of : Point → Walk
-    second_of = second_walk (base_flow p) p.module.now p.text.now c.insn c.target c.arm
-
-    same : (first_of x ≡ first_of top) × (second_of x ≡ second_of top)
+    same : (untaken_walk p c x ≡ untaken_walk p c top) × (taken_walk p c x ≡ taken_walk p c top)
     same = rest (terms_of p) p.module.now p.text.now c.insn c.target c.arm top x p.exact.even pc h calm
 
     pub calm_too : (flow_at p c x).reasons ≡ []
     unfolding reasons_by
     calm_too =
-        ap (λ a. reasons_by p.module.now c a (first_of x) (second_of x)) pc ∙ ap (λ w. reasons_by p.module.now c top.pair.addr w (second_of x)) same.0
-        ∙ ap (λ w. reasons_by p.module.now c top.pair.addr (first_of top) w) same.1 ∙ calm
+        ap (λ a. reasons_by p.module.now c a (untaken_walk p c x) (taken_walk p c x)) pc
+        ∙ ap (λ w. reasons_by p.module.now c top.pair.addr w (taken_walk p c x)) same.0
+        ∙ ap (λ w. reasons_by p.module.now c top.pair.addr (untaken_walk p c top) w) same.1 ∙ calm
 
     pub clobbered_too : (l : Label) → clobbered p c x l ≡ clobbered p c top l
-    clobbered_too l = ap (λ w. by w (second_of x)) same.0 ∙ ap (λ w. by (first_of top) w) same.1
-      where
-        by : Walk → Walk → Label
-        by w0 w1 = record { core = blot_core (w0.regs ++ w1.regs) l.core; words = set_each (w0.words ++ w1.words) Secret l.words }
-
--- what was written into a blank state, laid over another
-laid_over : (p : Program) (c : BranchSite) (x : Point) (l : Label) → length l.core ≡ 16 → length l.words ≡ 256 →
-    record { core = overlay (clobbered p c x blank).core l.core; words = overlay (clobbered p c x blank).words l.words } ≡ clobbered p c x l
-laid_over p c x l core words =
-    let w0 : Walk = first_walk (base_flow p) p.module.now p.text.now c.insn c.arm x in
-    let w1 : Walk = second_walk (base_flow p) p.module.now p.text.now c.insn c.target c.arm x in
-    ap (λ v. record { core = v; words = overlay (set_each (w0.words ++ w1.words) Secret (replicate 256 Public)) l.words }) (overlay_core (w0.regs ++ w1.regs) l.core core)
-    ∙ ap (λ v. record { core = blot_core (w0.regs ++ w1.regs) l.core; words = v }) (overlay_words (w0.words ++ w1.words) l.words words)
+    clobbered_too l =
+        ap (λ w. blot (taken_walk p c x) (blot w l)) same.0 ∙ ap (λ w. blot w (blot (untaken_walk p c top) l)) same.1
 
 -- an open summary, of a state that it subsumes
 pub opens : ArmsRest → (p : Program) (s : Summary) (told : Label) → s.answer ≡ Open told → IsSummary p s → (c : BranchSite) (pc : ℕ) (returns : List ℕ) (l l1 : Label) → s.branch ≡ pc → s.site ≡ c → Absorbs s.state l →
@@ -76,7 +58,8 @@ opens rest p s told e is c pc returns l l1 eb ec h core words el =
     let calm : (flow_at p c b).reasons ≡ [] = subst (λ c. (flow_at p c b).reasons ≡ []) ec it.0 in
     let same : told ≡ clobbered p c b blank = it.1 ∙ ap (λ c. clobbered p c b blank) ec in (
       calm_too rest p c b x (sym eb) h calm,
-      el ∙ ap (λ t. record { core = overlay t.core l.core; words = overlay t.words l.words }) (same ∙ sym (clobbered_too rest p c b x (sym eb) h calm blank)) ∙ laid_over p c x l core words,
+      el ∙ ap (λ t. over t l) (same ∙ sym (clobbered_too rest p c b x (sym eb) h calm blank))
+          ∙ over_both (untaken_walk p c x) (taken_walk p c x) l core words,
     )
 
 -- a shut one, of a state that subsumes its own

@@ -1,5 +1,5 @@
 -- A walk along an arm, step by step, and the step of a branch with its certificate.
-use Rattle.std.proofs.Common.{◌≡◌, ◌≢◌, ℕ, zero, suc, ◌+◌, ◌<◌, ◌==◌, List, [], ◌∷◌, ◌++◌, find, refl, sym, ap, ◌∙◌, arith, Bool, true, false, cond, ◌&&◌, not, Option, Some, None}
+use Rattle.std.proofs.Common.{◌≡◌, ◌≢◌, ℕ, zero, suc, ◌+◌, ◌<◌, ◌==◌, List, [], ◌∷◌, ◌++◌, find, refl, sym, ap, ◌∙◌, arith, Bool, true, false, cond, ◌&&◌, not, Option, Some, None, Result, Ok, Err}
 use Rattle.std.specs.List.{slice_get}
 use Rattle.std.proofs.lemmas.Bool.Decides.{nat_tests}
 use Rattle.sm_words.specs.Words.{add16}
@@ -8,86 +8,102 @@ use Rattle.insn_decode.specs.declared.insn.Insn.{Insn}
 use Rattle.insn_decode.specs.declared.insn.Insn.TheVariants.{Jump}
 use Rattle.cycle_table.specs.Cycles.{cycles_of}
 use Rattle.mod_layout.specs.declared.Module.{Module}
-use Rattle.mod_layout.specs.Table.{holds}
 use Rattle.arm_balance.specs.Met.{met}
 use Rattle.arm_balance.specs.Balance.{arm_on}
 use Rattle.arm_balance.specs.declared.Arm.{Arm}
 use Rattle.flow_rule.specs.declared.Label.{Label}
-use Rattle.flow_rule.specs.declared.Reason.TheVariants.{Arm as ArmInsn, ArmTime}
+use Rattle.flow_rule.specs.declared.Reason.TheVariants.{ArmTime}
 use Rattle.flow_rule.specs.Rounds.{Found, Point, Step}
+use Rattle.flow_rule.specs.declared.Val.{Val}
 use Rattle.flow_rule.specs.declared.Val.TheVariants.{Secret}
 use Rattle.flow_rule.specs.Values.{is_secret, set_each, val}
-use Rattle.flow_rule.specs.Does.{plan_val, write_reaches, past_val, does_val}
-use Rattle.flow_rule.specs.Reasons.{because, because_if}
-use Rattle.flow_rule.specs.Arms.{written_regs, written_words, blot_core, Walk, ended, walked, walk_past, walk_on, walk, arm_start, step_arm, step_branch, step_arms_by, step_arms}
+use Rattle.flow_rule.specs.Does.{plan_val, write_reaches}
+use Rattle.flow_rule.specs.Reasons.{because_if}
+use Rattle.flow_rule.specs.Arms.{written_regs, written_words, blot_core, Walk, Meets, Stops, blot, walked, walk_on, arm_reasons, step_branch, step_arms_by, step_arms}
 use Rattle.flow_check.specs.declared.violation.Violation.{Violation}
 use Rattle.flow_check.specs.declared.branch.BranchSite.{BranchSite}
 use Rattle.flow_check.specs.declared.arm.Tally.{Tally}
 use Rattle.flow_check.specs.internal.Violations.{noted}
 use Rattle.flow_check.specs.declared.program.Program.{Program}
-use Rattle.flow_check.specs.internal.Programs.{flow, base_flow, flow_at}
+use Rattle.flow_check.specs.internal.Programs.{flow, base_flow, flow_at, arm_walk}
 use Rattle.flow_check.specs.internal.Points.{addrs_of, points_at, label_at}
-use Rattle.flow_check.specs.internal.Arms.{told, site_from, site_by, step_at}
+use Rattle.flow_check.specs.internal.Arms.{untold, told_insn, told, told_reasons, told_state, site_from, site_by, step_at}
 use Rattle.flow_check.proofs.Clobbering.{core_append, words_append}
 use Rattle.flow_check.proofs.Violations.{noted_append}
 
 -- ---- one step
 
--- nothing told
-pub told_none : (t : Tally) → told ended t ≡ t
-told_none t = ap (λ c. record t { cycles = c }) (let e : t.cycles + 0 ≡ t.cycles = omega arith in e)
+-- what was told, at the join
+told_joined : (t : Tally) → told (Meets 0 [] []) t ≡ Ok t
+told_joined t = ap (λ c. Ok (record t { cycles = c })) (let e : t.cycles + 0 ≡ t.cycles = omega arith in e)
 
-module _ (S : Point → Step) (m : Module) (text : List ℕ) (branch join : ℕ) where
-  -- at the join
-  pub walk_joins : (steps : ℕ) (x : Point) → x.pair.addr ≡ join → walk S m text branch join (suc steps) x ≡ ended
-  walk_joins steps x e =
-      ap (λ b. cond b ended (walk_on (arm_on m.text text join x.pair.addr) (S x) branch m text x (walk S m text branch join steps)))
-      (let f : (x.pair.addr == join) ≡ true = grind (arith, nat_tests) in f)
+abbrev told_as : ℕ → List Val → List Val → Result Tally ℕ
+told_as cycles core words = Ok (record { cycles = cycles; state = record { core = core; words = words } })
 
-  walk_at : (steps : ℕ) (x : Point) (o : Option ℕ) → x.pair.addr ≢ join → arm_on m.text text join x.pair.addr ≡ o →
-      walk S m text branch join (suc steps) x ≡ walk_on o (S x) branch m text x (walk S m text branch join steps)
-  walk_at steps x o ne e =
-      ap (λ b. cond b ended (walk_on (arm_on m.text text join x.pair.addr) (S x) branch m text x (walk S m text branch join steps)))
-      (let f : (x.pair.addr == join) ≡ false = grind (arith, nat_tests) in f)
-      ∙ ap (λ o. walk_on o (S x) branch m text x (walk S m text branch join steps)) e
+-- where an instruction goes on, what it takes and writes may be told first
+told_walked : (insn : Insn) (m : Module) (x : Point) (rest : Walk) (t : Tally) →
+    told (walked (Some insn) m x rest) t
+    ≡ told rest (told_insn (cycles_of insn) insn m (plan_val insn x.pair.addr x.label.core) t)
+told_walked insn m x (Stops addr) t = refl
+told_walked insn m x (Meets cycles regs words) t =
+    let ws = written_words m (write_reaches (plan_val insn x.pair.addr x.label.core)) in
+    let time = t.cycles + cycles_of insn + cycles in
+    let core = blot_core (written_regs insn ++ regs) t.state.core in
+    ap (λ c. told_as c core (set_each (ws ++ words) Secret t.state.words))
+    (let e : t.cycles + (cycles_of insn + cycles) ≡ t.cycles + cycles_of insn + cycles = omega arith in e)
+    ∙ ap (λ v. told_as time core v) (words_append ws words t.state.words)
+    ∙ ap (λ v. told_as time v (set_each words Secret (set_each ws Secret t.state.words)))
+    (core_append (written_regs insn) regs t.state.core)
 
-  calm : (steps : ℕ) (x : Point) (next : ℕ) → x.pair.addr ≢ join → arm_on m.text text join x.pair.addr ≡ Some next → (S x).reasons ≡ [] →
-      walk S m text branch join (suc steps) x ≡ walk_past [] (S x).gives branch next m text x (walk S m text branch join steps)
+module _ (p : Program) (join : ℕ) where
+  -- where an arm goes on from a point
+  abbrev next_at : Point → Option ℕ
+  next_at x = arm_on p.module.now.text p.text.now join x.pair.addr
+
+  -- the walk from there, by a step's reasons and gives
+  abbrev onward : ℕ → Option ℕ → List Found → List Point → Point → Walk
+  onward steps o rs gs x = walk_on o rs gs p.module.now p.text.now x (arm_walk p join steps)
+
+  walk_at : (steps : ℕ) (x : Point) (b : Bool) (o : Option ℕ) → (x.pair.addr == join) ≡ b → next_at x ≡ o →
+      arm_walk p join (suc steps) x
+      ≡ cond b (Meets 0 [] []) (onward steps o (base_flow p x).reasons (base_flow p x).gives x)
+  walk_at steps x b o e on =
+      let s = base_flow p x in
+      ap (λ b. cond b (Meets 0 [] []) (onward steps (next_at x) s.reasons s.gives x)) e
+      ∙ ap (λ o. cond b (Meets 0 [] []) (onward steps o s.reasons s.gives x)) on
+
+  calm : (steps : ℕ) (x : Point) (next : ℕ) → x.pair.addr ≢ join → next_at x ≡ Some next → (base_flow p x).reasons ≡ [] →
+      arm_walk p join (suc steps) x ≡ onward steps (Some next) [] (base_flow p x).gives x
   calm steps x next ne on none =
-      walk_at steps x (Some next) ne on ∙ ap (λ rs. walk_past rs (S x).gives branch next m text x (walk S m text branch join steps)) none
+      walk_at steps x false (Some next) (let f : (x.pair.addr == join) ≡ false = grind (arith, nat_tests) in f) on
+      ∙ ap (λ rs. onward steps (Some next) rs (base_flow p x).gives x) none
 
   -- an instruction that leaves the text
-  pub walk_leaves : (steps : ℕ) (x : Point) (t : Tally) (next : ℕ) (l : Option Violation) → x.pair.addr ≢ join → arm_on m.text text join x.pair.addr ≡ Some next → (S x).reasons ≡ [] → (S x).gives ≡ [] →
-      l ≡ noted (because branch ArmInsn next) t.least → told (walk S m text branch join (suc steps) x) t ≡ record t { least = l }
-  walk_leaves steps x t next l ne on none out e =
-      ap (λ w. told w t) (calm steps x next ne on none ∙ ap (λ gs. walk_past [] gs branch next m text x (walk S m text branch join steps)) out)
-      ∙ ap (λ c. record { least = noted (because branch ArmInsn next) t.least; cycles = c; state = t.state }) (let g : t.cycles + 0 ≡ t.cycles = omega arith in g)
-      ∙ ap (λ l. record t { least = l }) (sym e)
+  pub walk_leaves : (steps : ℕ) (x : Point) (t : Tally) (next : ℕ) → x.pair.addr ≢ join → next_at x ≡ Some next →
+      (base_flow p x).reasons ≡ [] → (base_flow p x).gives ≡ [] → told (arm_walk p join (suc steps) x) t ≡ Err next
+  walk_leaves steps x t next ne on none out =
+      ap (λ w. told w t) (calm steps x next ne on none ∙ ap (λ gs. onward steps (Some next) [] gs x) out)
 
   -- an instruction that goes on
-  pub walk_goes : (steps : ℕ) (x y : Point) (ys : List Point) (t : Tally) (next : ℕ) (insn : Insn) → x.pair.addr ≢ join → arm_on m.text text join x.pair.addr ≡ Some next → met m.text text x.pair.addr ≡ Some insn →
-      (S x).reasons ≡ [] → (S x).gives ≡ y ∷ ys →
-      told (walk S m text branch join (suc steps) x) t
-      ≡ told (walk S m text branch join steps y) (record t { cycles = t.cycles + cycles_of insn; state = record { core = blot_core (written_regs insn) t.state.core; words = set_each (written_words m (write_reaches (plan_val insn x.pair.addr x.label.core))) Secret t.state.words } })
+  pub walk_goes : (steps : ℕ) (x y : Point) (ys : List Point) (t : Tally) (next : ℕ) (insn : Insn) → x.pair.addr ≢ join →
+      next_at x ≡ Some next → met p.module.now.text p.text.now x.pair.addr ≡ Some insn →
+      (base_flow p x).reasons ≡ [] → (base_flow p x).gives ≡ y ∷ ys →
+      told (arm_walk p join (suc steps) x) t
+      ≡ told (arm_walk p join steps y)
+      (told_insn (cycles_of insn) insn p.module.now (plan_val insn x.pair.addr x.label.core) t)
   walk_goes steps x y ys t next insn ne on it none go =
       ap (λ w. told w t)
-      (calm steps x next ne on none ∙ ap (λ gs. walk_past [] gs branch next m text x (walk S m text branch join steps)) go
-      ∙ ap (λ o. walked o m x rest) it)
-      ∙ ap (λ c. record { least = noted rest.reasons t.least; cycles = c; state = record { core = blot_core (written_regs insn ++ rest.regs) t.state.core; words = set_each (ws ++ rest.words) Secret t.state.words } })
-      (let e : t.cycles + (cycles_of insn + rest.cycles) ≡ t.cycles + cycles_of insn + rest.cycles = omega arith in e)
-      ∙ ap (λ c. record { least = noted rest.reasons t.least; cycles = t.cycles + cycles_of insn + rest.cycles; state = record { core = c; words = set_each (ws ++ rest.words) Secret t.state.words } }) (core_append (written_regs insn) rest.regs t.state.core)
-      ∙ ap (λ w. record { least = noted rest.reasons t.least; cycles = t.cycles + cycles_of insn + rest.cycles; state = record { core = blot_core rest.regs (blot_core (written_regs insn) t.state.core); words = w } }) (words_append ws rest.words t.state.words)
-    where
-      rest : Walk
-      rest = walk S m text branch join steps y
-
-      ws : List ℕ
-      ws = written_words m (write_reaches (plan_val insn x.pair.addr x.label.core))
+      (calm steps x next ne on none ∙ ap (λ gs. onward steps (Some next) [] gs x) go
+      ∙ ap (λ o. walked o p.module.now x (arm_walk p join steps y)) it)
+      ∙ told_walked insn p.module.now x (arm_walk p join steps y) t
 
   -- at the join with steps left
-  pub walk_there : (left : ℕ) (x : Point) (t : Tally) → 0 < left → x.pair.addr ≡ join → told (walk S m text branch join left x) t ≡ t
+  pub walk_there : (left : ℕ) (x : Point) (t : Tally) → 0 < left → x.pair.addr ≡ join →
+      told (arm_walk p join left x) t ≡ Ok t
   walk_there zero x t h e = absurd (omega arith)
-  walk_there (suc steps) x t h e = ap (λ w. told w t) (walk_joins steps x e) ∙ told_none t
+  walk_there (suc steps) x t h e =
+      let f : (x.pair.addr == join) ≡ true = grind (arith, nat_tests) in
+      ap (λ w. told w t) (walk_at steps x true (next_at x) f refl) ∙ told_joined t
 
 -- what is given, by the first address
 pub successors_first : (gs : List Point) (ts rs : List ℕ) (l : Label) (to : ℕ) → ts ≡ addrs_of gs → gs ≡ points_at (addrs_of gs) rs l → slice_get ts 0 ≡ Some to →
@@ -120,46 +136,39 @@ site_is S arms m text x = by (met m.text text x.pair.addr)
         jump false a = refl
     by _ = refl
 
-module _ (S : Point → Step) (m : Module) (text : List ℕ) (insn : Insn) (target : ℕ) (arm : Arm) (x : Point) (t0 t1 t2 : Tally)
-    (still : t0.cycles ≡ 0)
-    (first : t1 ≡ told (walk S m text x.pair.addr arm.join (suc arm.join) (arm_start insn (add16 x.pair.addr 2) x (past_val insn x.pair.addr x.label.core))) t0)
-    (second : t2 ≡ told (walk S m text x.pair.addr arm.join (suc arm.join) (arm_start insn target x (does_val insn x.pair.addr x.label.core []).core)) (record t1 { cycles = 0 }))
+-- the reasons of an arm, by its walk
+arm_told : (branch time number : ℕ) (w : Walk) (l : Label) →
+    told_reasons branch time number (told w (untold l)) ≡ arm_reasons branch time number w
+arm_told branch time number (Meets cycles regs words) l =
+    ap (λ n. because_if (not (n == time)) branch ArmTime number) (let e : 0 + cycles ≡ cycles = omega arith in e)
+arm_told branch time number (Stops addr) l = refl
+
+-- the state behind it
+state_told : (w : Walk) (l : Label) → told_state l (told w (untold l)) ≡ blot w l
+state_told (Meets cycles regs words) l = refl
+state_told (Stops addr) l = refl
+
+-- both arms, one after the other
+module _ (l0 l1 : Label) (w0 w1 : Walk) (r0 r1 : Result Tally ℕ) (first : r0 ≡ told w0 (untold l0))
+    (between : l1 ≡ told_state l0 r0) (second : r1 ≡ told w1 (untold l1))
   where
-    abbrev w0 : Walk
-    w0 = walk S m text x.pair.addr arm.join (suc arm.join) (arm_start insn (add16 x.pair.addr 2) x (past_val insn x.pair.addr x.label.core))
-
-    abbrev w1 : Walk
-    w1 = walk S m text x.pair.addr arm.join (suc arm.join) (arm_start insn target x (does_val insn x.pair.addr x.label.core []).core)
-
-    first_time : t1.cycles ≡ w0.cycles
-    first_time = ap (λ t. t.cycles) first ∙ ap (λ n. n + w0.cycles) still ∙ (let e : 0 + w0.cycles ≡ w0.cycles = omega arith in e)
-
-    second_time : t2.cycles ≡ w1.cycles
-    second_time = ap (λ t. t.cycles) second ∙ (let e : 0 + w1.cycles ≡ w1.cycles = omega arith in e)
-
     -- the least of the reasons at a branch with a certificate
-    pub site_least : (o l1 l2 : Option Violation) → t0.least ≡ noted (because_if (not (holds m.text arm.join)) x.pair.addr ArmInsn arm.join) o →
-        l1 ≡ noted (because_if (not (t1.cycles == arm.cycles)) x.pair.addr ArmTime 0) t2.least →
-        l2 ≡ noted (because_if (not (t2.cycles == arm.cycles)) x.pair.addr ArmTime 1) l1 → l2 ≡ noted (step_arm S m text insn target arm x).reasons o
-    site_least o l1 l2 e0 e1 e2 =
-        let pc : ℕ = x.pair.addr in
-        let a : List Found = because_if (not (holds m.text arm.join)) pc ArmInsn arm.join in
-        let b : List Found = because_if (not (w0.cycles == arm.cycles)) pc ArmTime 0 in
-        let c : List Found = because_if (not (w1.cycles == arm.cycles)) pc ArmTime 1 in
-        let walked : t2.least ≡ noted w1.reasons (noted w0.reasons (noted a o)) =
-        ap (λ t. t.least) second ∙ ap (noted w1.reasons) (ap (λ t. t.least) first ∙ ap (noted w0.reasons) e0) in
-        e2 ∙ ap (λ n. noted (because_if (not (n == arm.cycles)) pc ArmTime 1) l1) second_time
-        ∙ ap (noted c) (e1 ∙ ap (λ n. noted (because_if (not (n == arm.cycles)) pc ArmTime 0) t2.least) first_time ∙ ap (noted b) walked)
-        ∙ sym (noted_append (a ++ w0.reasons ++ w1.reasons ++ b) c o ∙ ap (noted c) (noted_append (a ++ w0.reasons ++ w1.reasons) b o
-        ∙ ap (noted b) (noted_append (a ++ w0.reasons) w1.reasons o ∙ ap (noted w1.reasons) (noted_append a w0.reasons o))))
+    pub site_least : (pc time : ℕ) (apart : List Found) (o0 o1 o2 o3 : Option Violation) → o1 ≡ noted apart o0 →
+        o2 ≡ noted (told_reasons pc time 0 r0) o1 → o3 ≡ noted (told_reasons pc time 1 r1) o2 →
+        o3 ≡ noted (apart ++ arm_reasons pc time 0 w0 ++ arm_reasons pc time 1 w1) o0
+    site_least pc time apart o0 o1 o2 o3 e1 e2 e3 =
+        let b : List Found = arm_reasons pc time 0 w0 in
+        let d : List Found = arm_reasons pc time 1 w1 in
+        let one : o2 ≡ noted b (noted apart o0) =
+        e2 ∙ ap (λ rs. noted rs o1) (ap (told_reasons pc time 0) first ∙ arm_told pc time 0 w0 l0) ∙ ap (noted b) e1 in
+        e3 ∙ ap (λ rs. noted rs o2) (ap (told_reasons pc time 1) second ∙ arm_told pc time 1 w1 l1) ∙ ap (noted d) one
+        ∙ sym (noted_append (apart ++ b) d o0 ∙ ap (noted d) (noted_append apart b o0))
 
     -- Secret where the arms wrote
-    pub site_told : t2.state ≡ record { core = blot_core (w0.regs ++ w1.regs) t0.state.core; words = set_each (w0.words ++ w1.words) Secret t0.state.words }
+    pub site_told : told_state l1 r1 ≡ blot w1 (blot w0 l0)
     site_told =
-        ap (λ t. t.state) second
-        ∙ ap (λ l. record { core = blot_core w1.regs l.core; words = set_each w1.words Secret l.words }) (ap (λ t. t.state) first)
-        ∙ ap (λ c. record { core = c; words = set_each w1.words Secret (set_each w0.words Secret t0.state.words) }) (sym (core_append w0.regs w1.regs t0.state.core))
-        ∙ ap (λ w. record { core = blot_core (w0.regs ++ w1.regs) t0.state.core; words = w }) (sym (words_append w0.words w1.words t0.state.words))
+        ap (told_state l1) second ∙ state_told w1 l1
+        ∙ ap (blot w1) (between ∙ ap (told_state l0) first ∙ state_told w0 l0)
 
 -- a step by what stands at the branch
 abbrev site_there : Program → Point → Option BranchSite

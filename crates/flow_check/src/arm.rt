@@ -1,15 +1,9 @@
 //! An arm of a secret branch, walked from its start to the join.
 
-ghost use Rattle.std.specs.Prelude.{◌≡◌, ◌≢◌, ◌≤◌, ◌<◌, ◌+◌, ◌*◌, suc, true, false, ℕ, Some, None, IfSome, slice_get};
-ghost use Rattle.flow_rule.specs.declared.Val.{Val};
-ghost use Rattle.flow_rule.specs.Values.{set_each};
-ghost use Rattle.flow_rule.specs.Does.{write_reaches};
-ghost use Rattle.flow_rule.specs.Arms.{walk, written_regs, written_words, blot_core};
-ghost use Rattle.flow_rule.specs.Reasons.{because};
-ghost use Rattle.flow_check.specs.internal.Violations.{noted};
-ghost use Rattle.flow_check.specs.internal.Arms.{told};
+ghost use Rattle.std.specs.Prelude.{◌≡◌, ◌≢◌, ◌≤◌, ◌<◌, ◌+◌, suc, ℕ, Err, IfOk, IfErr, slice_get};
+ghost use Rattle.flow_check.specs.internal.Arms.{untold, told_insn, told};
 ghost use Rattle.flow_check.specs.internal.Points.{point_at};
-ghost use Rattle.flow_check.specs.internal.Programs.{base_flow};
+ghost use Rattle.flow_check.specs.internal.Programs.{arm_walk};
 
 use crate::accesses::reaches;
 use crate::clobbers::{clobber_registers, clobber_words};
@@ -18,17 +12,15 @@ use crate::program::Program;
 use crate::relevant::Relevance;
 use crate::step::Targets;
 use crate::stub::step_point;
-use crate::violation::{Violation, note};
 use arm_balance::met_arm;
 use cycle_table::cycles;
-use flow_rule::{Label, Reach, Reason, Val};
+use flow_rule::{Label, Reach, Val};
 use insn_decode::Insn;
 use mod_layout::Module;
 
-/// What is told along the arms: the least violation, cycles, and the branch's state with Secret where they write.
+/// What is told along an arm: its cycles, and a state with Secret where it writes.
 #[derive(Clone, Copy)]
 pub struct Tally {
-    pub least: Option<Violation>,
     pub cycles: u32,
     pub state: Label,
 }
@@ -36,15 +28,7 @@ pub struct Tally {
 /// Tells what an instruction takes and writes.
 fn tell(module: &Module, insn: &Insn, reaches: &[Reach], time: u8, tally: &mut Tally)
     requires { tally.old.cycles + time < 4294967296 }
-    ensures { tally.new ≡ record tally.old {
-      cycles = tally.old.cycles + time;
-      state = record {
-        core = blot_core
-            (written_regs insn.now) tally.old.state.core;
-        words = set_each
-            (written_words module.now (write_reaches reaches.now)) Val.Secret tally.old.state.words;
-      };
-    } }
+    ensures { tally.new ≡ told_insn time insn.now module.now reaches.now tally.old }
 {
     tally.cycles += u32::from(time);
     clobber_registers(insn, &mut tally.state.core);
@@ -58,47 +42,34 @@ fn first_of(targets: &Targets) -> Option<u16>
     targets.first().copied()
 }
 
-/// What is wrong with an arm that leaves the text: where it goes on there is no arm's instruction.
-fn note_left(branch: u16, next: u16, least: &mut Option<Violation>)
-    ensures { least.new ≡ noted (because branch Reason.Arm next) least.old }
-{
-    note(least, branch, Reason::Arm, next);
-}
-
-/// Does the arm's instruction at this point, and tells whether the arm goes on.
+/// Does the arm's instruction at this point, or tells the address where the arm stops.
 fn walk_on(
     program: &Program<'_>,
-    branch: u16,
     join: u16,
     point: &mut Point,
     tally: &mut Tally,
     relevance: &mut Relevance,
-) -> bool
+) -> Result<(), u16>
     requires before { point.old.addr ≢ join }
     requires short { tally.old.cycles < 4294967000 }
-    ensures on { result ≡ true → (steps : ℕ) →
-        told (walk (base_flow program.now) program.now.module.now program.now.text.now branch join (suc steps)
-        (point_at point.old)) tally.old ≡ told
-        (walk (base_flow program.now) program.now.module.now program.now.text.now branch join steps
-        (point_at point.new)) tally.new }
-    ensures ends { result ≡ false → (steps : ℕ) →
-        told (walk (base_flow program.now) program.now.module.now program.now.text.now branch join (suc steps)
-        (point_at point.old)) tally.old ≡ tally.new }
+    ensures on { IfOk result (λ _. (steps : ℕ) →
+        told (arm_walk program.now join (suc steps) (point_at point.old)) tally.old
+        ≡ told (arm_walk program.now join steps (point_at point.new)) tally.new) }
+    ensures stops { IfErr result (λ addr. (steps : ℕ) →
+        told (arm_walk program.now join (suc steps) (point_at point.old)) tally.old ≡ Err addr) }
     ensures cycles { tally.new.cycles ≤ tally.old.cycles + 6 }
 {
     let module = program.module;
     let pc = point.addr;
     let Some((insn, next)) = met_arm(module.text, program.text, pc, join) else {
-        note(&mut tally.least, branch, Reason::Arm, pc);
-        return false;
+        return Err(pc);
     };
     let reaches = reaches(&insn, pc, &point.state.core);
     let reached = reaches.as_slice();
     relevance.follow(module, &insn, reached);
     let stepped = step_point(program, point);
     if stepped.least.is_some() {
-        note(&mut tally.least, branch, Reason::Arm, pc);
-        return false;
+        return Err(pc);
     }
     match first_of(&stepped.targets) {
         Some(to) => {
@@ -106,41 +77,38 @@ fn walk_on(
             point.addr = to;
             point.state.core[0] = Val::Known(to);
             point.call_string = stepped.call_string;
-            true
+            Ok(())
         }
-        None => {
-            note_left(branch, next, &mut tally.least);
-            false
-        }
+        None => Err(next),
     }
 }
 
-/// Walks from a point to the merge point. Each instruction of an arm goes up, so there are no more than addresses up to
-/// the merge point.
+/// Walks from a point to the join: what is told along the arm, or the address where it stops. Each instruction of an
+/// arm goes up, so there are no more than addresses up to the join.
 pub fn walk(
     program: &Program<'_>,
-    branch: u16,
     join: u16,
     from: &Point,
-    tally: &mut Tally,
+    state: &Label,
     relevance: &mut Relevance,
-)
-    requires start { tally.old.cycles ≡ 0 }
-    ensures { tally.new ≡ told
-        (walk (base_flow program.now) program.now.module.now program.now.text.now branch join (suc join)
-        (point_at from.now)) tally.old }
+) -> Result<Tally, u16>
+    ensures { result ≡ told (arm_walk program.now join (suc join) (point_at from.now)) (untold state.now) }
 {
     relevance.begin();
     let mut point = *from;
+    let mut tally = Tally {
+        cycles: 0,
+        state: *state,
+    };
     let mut left = u32::from(join) + 1;
     while left > 0 {
         if point.addr == join {
-            return;
+            return Ok(tally);
         }
-        if !walk_on(program, branch, join, &mut point, tally, relevance) {
-            return;
+        if let Err(addr) = walk_on(program, join, &mut point, &mut tally, relevance) {
+            return Err(addr);
         }
         left -= 1;
     }
-    note(&mut tally.least, branch, Reason::Arm, point.addr);
+    Err(point.addr)
 }

@@ -10,7 +10,7 @@ ghost use Rattle.flow_check.specs.internal.Violations.{noted};
 ghost use Rattle.flow_check.specs.internal.Points.{point_at};
 ghost use Rattle.flow_check.specs.internal.Programs.{flow_at};
 ghost use Rattle.flow_check.specs.internal.Summaries.{clobbered};
-ghost use Rattle.flow_check.specs.internal.Arms.{site_by};
+ghost use Rattle.flow_check.specs.internal.Arms.{site_by, told_reasons, told_state};
 
 use crate::accesses::step_past;
 use crate::arm::{Tally, walk};
@@ -19,7 +19,7 @@ use crate::point::Point;
 use crate::program::Program;
 use crate::relevant::Relevance;
 use crate::transfer::does;
-use crate::violation::{Violation, note_if};
+use crate::violation::{Violation, note, note_if};
 use arm_balance::{Arm, met, target};
 use flow_rule::{Label, Reason, Val};
 use insn_decode::Insn;
@@ -128,6 +128,27 @@ fn second_arm(insn: &Insn, target: u16, from: &Point) -> Point
     point
 }
 
+/// Takes what the walk along an arm told: what is wrong with it, and Secret where it writes.
+fn take_arm(
+    walked: &Result<Tally, u16>,
+    branch: u16,
+    time: u16,
+    number: u16,
+    least: &mut Option<Violation>,
+    told: &mut Label,
+)
+    ensures least { least.new ≡ noted (told_reasons branch time number walked.now) least.old }
+    ensures told { told.new ≡ told_state told.old walked.now }
+{
+    match *walked {
+        Ok(tally) => {
+            note_if(tally.cycles != u32::from(time), least, branch, Reason::ArmTime, number);
+            *told = tally.state;
+        }
+        Err(addr) => note(least, branch, Reason::Arm, addr),
+    }
+}
+
 /// Walks both arms of a branch from its state: the least of their violations and of what was there, and Secret where
 /// they write in `told`.
 pub fn walk_arms(
@@ -143,25 +164,14 @@ pub fn walk_arms(
 {
     let pc = from.addr;
     let BranchSite { insn, target, arm } = *site;
-    let wanted = u32::from(arm.cycles);
-    let mut tally = Tally {
-        least: *least,
-        cycles: 0,
-        state: *told,
-    };
     let apart = !program.module.text.holds(usize::from(arm.join));
-    note_if(apart, &mut tally.least, pc, Reason::Arm, arm.join);
-    let first = first_arm(&insn, from);
-    let second = second_arm(&insn, target, from);
-    walk(program, pc, arm.join, &first, &mut tally, relevance);
-    let first_late = tally.cycles != wanted;
-    tally.cycles = 0;
-    walk(program, pc, arm.join, &second, &mut tally, relevance);
-    let second_late = tally.cycles != wanted;
-    note_if(first_late, &mut tally.least, pc, Reason::ArmTime, 0);
-    note_if(second_late, &mut tally.least, pc, Reason::ArmTime, 1);
-    *least = tally.least;
-    *told = tally.state;
+    note_if(apart, least, pc, Reason::Arm, arm.join);
+    let start = first_arm(&insn, from);
+    let first = walk(program, arm.join, &start, told, relevance);
+    take_arm(&first, pc, arm.cycles, 0, least, told);
+    let start = second_arm(&insn, target, from);
+    let second = walk(program, arm.join, &start, told, relevance);
+    take_arm(&second, pc, arm.cycles, 1, least, told);
 }
 
 /// The site of a program point that is a secret branch with a certificate.

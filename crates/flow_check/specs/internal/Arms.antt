@@ -1,5 +1,5 @@
 -- What the arms of a secret branch tell, gathered along the way.
-use Rattle.std.specs.Prelude.{ℕ, ◌+◌, ◌==◌, ◌&&◌, not, true, if◌then◌else◌, List, [], ◌∷◌, find, Option, Some, None}
+use Rattle.std.specs.Prelude.{ℕ, ◌+◌, ◌==◌, ◌&&◌, not, true, if◌then◌else◌, List, [], ◌∷◌, find, Option, Some, None, Result, Ok, Err}
 use Rattle.insn_decode.specs.declared.insn.Insn.{Insn}
 use Rattle.insn_decode.specs.declared.insn.Insn.TheVariants.{Jump}
 use Rattle.insn_decode.specs.declared.insn.OneOp.{OneOp}
@@ -9,22 +9,44 @@ use Rattle.insn_decode.specs.Code.{distance}
 use Rattle.sm_words.specs.Words.{add16}
 use Rattle.mod_layout.specs.declared.Module.{Module}
 use Rattle.arm_balance.specs.declared.Arm.{Arm}
+use Rattle.flow_rule.specs.declared.Label.{Label}
+use Rattle.flow_rule.specs.declared.Reach.{Reach}
+use Rattle.flow_rule.specs.declared.Reason.TheVariants.{Arm as ArmInsn, ArmTime}
 use Rattle.flow_rule.specs.declared.Val.{Val}
-use Rattle.flow_rule.specs.declared.Val.TheVariants.{Secret}
-use Rattle.flow_rule.specs.Values.{is_secret, set_each}
-use Rattle.flow_rule.specs.Rounds.{Point, Step}
-use Rattle.flow_rule.specs.Arms.{Walk, written_reg, blot_core, step_arm}
+use Rattle.flow_rule.specs.Values.{is_secret}
+use Rattle.flow_rule.specs.Rounds.{Point, Found, Step}
+use Rattle.flow_rule.specs.Reasons.{because, because_if}
+use Rattle.flow_rule.specs.Does.{write_reaches}
+use Rattle.flow_rule.specs.Arms.{Walk, Meets, Stops, written_reg, written_regs, written_words, blot, step_arm}
 use Rattle.flow_check.specs.declared.arm.Tally.{Tally}
 use Rattle.flow_check.specs.declared.branch.BranchSite.{BranchSite}
-use Rattle.flow_check.specs.internal.Violations.{noted}
 
--- what was told, and a walk's part: its reasons, its cycles, and Secret where it wrote
-abbrev pub told : Walk → Tally → Tally
-told w t = record {
-  least = noted w.reasons t.least;
-  cycles = t.cycles + w.cycles;
-  state = record { core = blot_core w.regs t.state.core; words = set_each w.words Secret t.state.words };
+-- nothing is told yet
+abbrev pub untold : Label → Tally
+untold l = record { cycles = 0; state = l }
+
+-- what was told, and an instruction: so many cycles, and Secret where it writes with these accesses
+abbrev pub told_insn : ℕ → Insn → Module → List Reach → Tally → Tally
+told_insn time insn m xs t = record {
+  cycles = t.cycles + time;
+  state = blot (Meets time (written_regs insn) (written_words m (write_reaches xs))) t.state;
 }
+
+-- what was told, and a walk's part: its cycles and Secret where it writes; or the address where it stops
+abbrev pub told : Walk → Tally → Result Tally ℕ
+told (Meets cycles regs words) t =
+    Ok (record { cycles = t.cycles + cycles; state = blot (Meets cycles regs words) t.state })
+told (Stops addr) t = Err addr
+
+-- the reasons of an arm, by what its walk told
+abbrev pub told_reasons : ℕ → ℕ → ℕ → Result Tally ℕ → List Found
+told_reasons branch time number (Ok t) = because_if (not (t.cycles == time)) branch ArmTime number
+told_reasons branch time number (Err addr) = because branch ArmInsn addr
+
+-- the state behind an arm: as before where it stops
+abbrev pub told_state : Label → Result Tally ℕ → Label
+told_state l (Ok t) = t.state
+told_state l (Err addr) = l
 
 abbrev pub site_from : Option Arm → Insn → ℕ → Option BranchSite
 site_from None insn target = None

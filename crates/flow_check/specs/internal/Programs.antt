@@ -1,7 +1,8 @@
 -- The rule of flow over a program.
+use Rattle.std.specs.Prelude.{ℕ}
 use Rattle.flow_rule.specs.Rounds.{Point, Step}
 use Rattle.flow_rule.specs.Verdict.{flow_step}
-use Rattle.flow_rule.specs.Arms.{flow_under, step_arm}
+use Rattle.flow_rule.specs.Arms.{Walk, walk, first_walk, second_walk, flow_under, step_arm}
 use Rattle.flow_check.specs.declared.program.Program.{Program}
 use Rattle.flow_check.specs.declared.branch.BranchSite.{BranchSite}
 use Rattle.flow_check.specs.internal.Terms.{terms_of}
@@ -17,3 +18,14 @@ base_flow p = flow_step (terms_of p) p.module.now p.text.now
 -- the step of a branch by its certificate
 abbrev pub flow_at : Program → BranchSite → Point → Step
 flow_at p c x = step_arm (base_flow p) p.module.now p.text.now c.insn c.target c.arm x
+
+-- the walk from a point to the join, in so many steps
+abbrev pub arm_walk : Program → ℕ → ℕ → Point → Walk
+arm_walk p join steps = walk (base_flow p) p.module.now p.text.now join steps
+
+-- along the arm of a branch that the jump does not take, and along the one that it takes
+abbrev pub untaken_walk : Program → BranchSite → Point → Walk
+untaken_walk p c = first_walk (base_flow p) p.module.now p.text.now c.insn c.arm
+
+abbrev pub taken_walk : Program → BranchSite → Point → Walk
+taken_walk p c = second_walk (base_flow p) p.module.now p.text.now c.insn c.target c.arm

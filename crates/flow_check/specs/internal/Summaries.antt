@@ -1,24 +1,20 @@
 -- One walk along the arms of a branch serves many states.
-use Rattle.std.specs.Prelude.{◌≡◌, ◌≢◌, ℕ, List, [], ◌∷◌, ◌++◌, replicate, All}
+use Rattle.std.specs.Prelude.{◌≡◌, ◌≢◌, ℕ, List, [], ◌∷◌, replicate, All}
 use Rattle.flow_rule.specs.declared.Label.{Label}
 use Rattle.flow_rule.specs.declared.Val.{Val}
-use Rattle.flow_rule.specs.declared.Val.TheVariants.{Public, Secret}
-use Rattle.flow_rule.specs.Values.{set_each}
+use Rattle.flow_rule.specs.declared.Val.TheVariants.{Public}
 use Rattle.flow_rule.specs.Rounds.{Point}
-use Rattle.flow_rule.specs.Arms.{blot_core, first_walk, second_walk}
+use Rattle.flow_rule.specs.Arms.{blot}
 use Rattle.flow_check.specs.declared.program.Program.{Program}
 use Rattle.flow_check.specs.declared.branch.BranchSite.{BranchSite}
 use Rattle.flow_check.specs.declared.summaries.Answer.{Answer}
 use Rattle.flow_check.specs.declared.summaries.Answer.TheVariants.{Open, Shut}
 use Rattle.flow_check.specs.declared.summaries.Summary.{Summary}
-use Rattle.flow_check.specs.internal.Programs.{base_flow, flow_at}
+use Rattle.flow_check.specs.internal.Programs.{flow_at, untaken_walk, taken_walk}
 
 -- a state with Secret where the arms write
 abbrev pub clobbered : Program → BranchSite → Point → Label → Label
-clobbered p c x l =
-    let w0 = first_walk (base_flow p) p.module.now p.text.now c.insn c.arm x in
-    let w1 = second_walk (base_flow p) p.module.now p.text.now c.insn c.target c.arm x in
-    record { core = blot_core (w0.regs ++ w1.regs) l.core; words = set_each (w0.words ++ w1.words) Secret l.words }
+clobbered p c x l = blot (taken_walk p c x) (blot (untaken_walk p c x) l)
 
 -- nothing is written
 abbrev pub blank : Label
