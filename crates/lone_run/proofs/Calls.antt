@@ -5,7 +5,7 @@ use Rattle.insn_decode.specs.declared.insn.Insn.{Insn}
 use Rattle.mod_layout.specs.Table.{holds}
 use Rattle.cpu_step.specs.Lone.{Job, Lone, Exit, Closing, Broken, Running, Waits, Closes, Leaves, doing_by, doing, next_insn, later, at_once, in_time, outcome, lone_does, lone_step_by, lone_step, lone_after}
 use Rattle.cpu_step.proofs.LoneLemmas.{after_step, after_more, delayed, delayed_none, delayed_more, later_is}
-use Rattle.lone_run.specs.Jobs.{between}
+use Rattle.lone_run.specs.Jobs.{lone_between}
 
 -- within an instruction
 abbrev within : List ℕ → List ℕ → ℕ → Bool → Lone
@@ -40,47 +40,47 @@ module _ (j : Job) (core ram : List ℕ) (closing : Bool) where
 
 -- ---- between two instructions
 
-doing_out : (j : Job) (core ram : List ℕ) → holds j.owner.text (reg core 0) ≡ false → doing j (between core ram) ≡ Leaves
+doing_out : (j : Job) (core ram : List ℕ) → holds j.owner.text (reg core 0) ≡ false → doing j (lone_between core ram) ≡ Leaves
 unfolding doing
-doing_out j core ram e = ap (λ b. doing_by 0 false b (next_insn j (between core ram))) e
+doing_out j core ram e = ap (λ b. doing_by 0 false b (next_insn j (lone_between core ram))) e
 
-doing_in : (j : Job) (core ram : List ℕ) (o : Option Insn) → holds j.owner.text (reg core 0) ≡ true → next_insn j (between core ram) ≡ o → doing j (between core ram) ≡ doing_by 0 false true o
+doing_in : (j : Job) (core ram : List ℕ) (o : Option Insn) → holds j.owner.text (reg core 0) ≡ true → next_insn j (lone_between core ram) ≡ o → doing j (lone_between core ram) ≡ doing_by 0 false true o
 unfolding doing
-doing_in j core ram o e f = ap (λ b. doing_by 0 false b (next_insn j (between core ram))) e ∙ ap (λ o. doing_by 0 false true o) f
+doing_in j core ram o e f = ap (λ b. doing_by 0 false b (next_insn j (lone_between core ram))) e ∙ ap (λ o. doing_by 0 false true o) f
 
 doing_closed : (j : Job) (core ram : List ℕ) → doing j (within core ram 0 true) ≡ Closes
 unfolding doing
 doing_closed j core ram = refl
 
-exits : (j : Job) (n : ℕ) (core ram : List ℕ) → holds j.owner.text (reg core 0) ≡ false → outcome j n (between core ram) ≡ Exit core ram 0
-exits j zero core ram e = ap (λ d. at_once d (between core ram)) (doing_out j core ram e)
-exits j (suc n) core ram e = ap (λ d. in_time d (outcome j n) j (between core ram)) (doing_out j core ram e)
+exits : (j : Job) (n : ℕ) (core ram : List ℕ) → holds j.owner.text (reg core 0) ≡ false → outcome j n (lone_between core ram) ≡ Exit core ram 0
+exits j zero core ram e = ap (λ d. at_once d (lone_between core ram)) (doing_out j core ram e)
+exits j (suc n) core ram e = ap (λ d. in_time d (outcome j n) j (lone_between core ram)) (doing_out j core ram e)
 
 closes : (j : Job) (n : ℕ) (core ram : List ℕ) → outcome j n (within core ram 0 true) ≡ Closing core ram 0
 closes j zero core ram = ap (λ d. at_once d (within core ram 0 true)) (doing_closed j core ram)
 closes j (suc n) core ram = ap (λ d. in_time d (outcome j n) j (within core ram 0 true)) (doing_closed j core ram)
 
-ends : (j : Job) (core ram : List ℕ) → holds j.owner.text (reg core 0) ≡ true → outcome j 0 (between core ram) ≡ Running
-ends j core ram e = ap (λ d. at_once d (between core ram)) (doing_in j core ram (next_insn j (between core ram)) e refl) ∙ by (next_insn j (between core ram))
+ends : (j : Job) (core ram : List ℕ) → holds j.owner.text (reg core 0) ≡ true → outcome j 0 (lone_between core ram) ≡ Running
+ends j core ram e = ap (λ d. at_once d (lone_between core ram)) (doing_in j core ram (next_insn j (lone_between core ram)) e refl) ∙ by (next_insn j (lone_between core ram))
   where
-    by : (o : Option Insn) → at_once (doing_by 0 false true o) (between core ram) ≡ Running
+    by : (o : Option Insn) → at_once (doing_by 0 false true o) (lone_between core ram) ≡ Running
     by None = refl
     by (Some insn) = refl
 
-breaks : (j : Job) (n : ℕ) (core ram : List ℕ) → 0 < n → holds j.owner.text (reg core 0) ≡ true → next_insn j (between core ram) ≡ None → outcome j n (between core ram) ≡ Broken ram 0
+breaks : (j : Job) (n : ℕ) (core ram : List ℕ) → 0 < n → holds j.owner.text (reg core 0) ≡ true → next_insn j (lone_between core ram) ≡ None → outcome j n (lone_between core ram) ≡ Broken ram 0
 breaks j zero core ram h e f = absurd (omega arith)
-breaks j (suc n) core ram h e f = ap (λ d. in_time d (outcome j n) j (between core ram)) (doing_in j core ram None e f)
+breaks j (suc n) core ram h e f = ap (λ d. in_time d (outcome j n) j (lone_between core ram)) (doing_in j core ram None e f)
 
 -- an instruction of k cycles
-module _ (j : Job) (core ram after left : List ℕ) (insn : Insn) (k : ℕ) (closing : Bool) (some : 1 ≤ k) (home : holds j.owner.text (reg core 0) ≡ true) (found : next_insn j (between core ram) ≡ Some insn)
-    (does_it : lone_does j insn (between core ram) ≡ within after left (k - 1) closing) where
-  step_is : lone_step j (between core ram) ≡ within after left (k - 1) closing
-  step_is = ap (λ d. lone_step_by d j (between core ram)) (doing_in j core ram (Some insn) home found) ∙ does_it
+module _ (j : Job) (core ram after left : List ℕ) (insn : Insn) (k : ℕ) (closing : Bool) (some : 1 ≤ k) (home : holds j.owner.text (reg core 0) ≡ true) (found : next_insn j (lone_between core ram) ≡ Some insn)
+    (does_it : lone_does j insn (lone_between core ram) ≡ within after left (k - 1) closing) where
+  step_is : lone_step j (lone_between core ram) ≡ within after left (k - 1) closing
+  step_is = ap (λ d. lone_step_by d j (lone_between core ram)) (doing_in j core ram (Some insn) home found) ∙ does_it
 
-  begun : (n : ℕ) → outcome j (suc n) (between core ram) ≡ later (outcome j n (within after left (k - 1) closing))
-  begun n = ap (λ d. in_time d (outcome j n) j (between core ram)) (doing_in j core ram (Some insn) home found) ∙ ap (λ l. later (outcome j n l)) does_it
+  begun : (n : ℕ) → outcome j (suc n) (lone_between core ram) ≡ later (outcome j n (within after left (k - 1) closing))
+  begun n = ap (λ d. in_time d (outcome j n) j (lone_between core ram)) (doing_in j core ram (Some insn) home found) ∙ ap (λ l. later (outcome j n l)) does_it
 
-  goes : (n : ℕ) → k ≤ n → outcome j n (between core ram) ≡ delayed k (outcome j (n - k) (within after left 0 closing))
+  goes : (n : ℕ) → k ≤ n → outcome j n (lone_between core ram) ≡ delayed k (outcome j (n - k) (within after left 0 closing))
   goes zero h = absurd (omega arith)
   goes (suc n) h =
       begun n ∙ later_is (outcome j n (within after left (k - 1) closing)) ∙ ap (delayed 1) (outcome_waits j after left closing (k - 1) n (omega arith))
@@ -88,26 +88,26 @@ module _ (j : Job) (core ram after left : List ℕ) (insn : Insn) (k : ℕ) (clo
       ∙ ap (λ i. delayed i (outcome j (n - (k - 1)) (within after left 0 closing))) (let e : 1 + (k - 1) ≡ k = omega arith in e)
       ∙ ap (λ i. delayed k (outcome j i (within after left 0 closing))) (let e : n - (k - 1) ≡ suc n - k = omega arith in e)
 
-  stays : (n : ℕ) → 0 < n → n < k → outcome j n (between core ram) ≡ Running
+  stays : (n : ℕ) → 0 < n → n < k → outcome j n (lone_between core ram) ≡ Running
   stays zero h g = absurd (omega arith)
   stays (suc n) h g = begun n ∙ ap later (outcome_short j after left closing (k - 1) n (omega arith))
 
-  after_all : lone_after j (between core ram) k ≡ within after left 0 closing
+  after_all : lone_after j (lone_between core ram) k ≡ within after left 0 closing
   after_all =
-      ap (lone_after j (between core ram)) (let e : k ≡ suc (k - 1) = omega arith in e) ∙ sym (after_step j (between core ram) (k - 1)) ∙ ap (λ l. lone_after j l (k - 1)) step_is
+      ap (lone_after j (lone_between core ram)) (let e : k ≡ suc (k - 1) = omega arith in e) ∙ sym (after_step j (lone_between core ram) (k - 1)) ∙ ap (λ l. lone_after j l (k - 1)) step_is
       ∙ after_waits j after left closing (k - 1) (k - 1) (omega arith) ∙ ap (λ i. within after left i closing) (let e : k - 1 - (k - 1) ≡ 0 = omega arith in e)
 
-  after_some : (n : ℕ) → 0 < n → n < k → (lone_after j (between core ram) n).data_bytes ≡ left
+  after_some : (n : ℕ) → 0 < n → n < k → (lone_after j (lone_between core ram) n).data_bytes ≡ left
   after_some zero h g = absurd (omega arith)
   after_some (suc n) h g =
-      ap (λ l. l.data_bytes) (sym (after_step j (between core ram) n) ∙ ap (λ l. lone_after j l n) step_is ∙ after_waits j after left closing n (k - 1) (omega arith))
+      ap (λ l. l.data_bytes) (sym (after_step j (lone_between core ram) n) ∙ ap (λ l. lone_after j l n) step_is ∙ after_waits j after left closing n (k - 1) (omega arith))
 
 -- ---- where a call stands
 
 -- after so many of the cycles up to the limit
 pub record At (j : Job) (start : Lone) (limit : ℕ) (core ram : List ℕ) (c : ℕ) : Type 0 where
-  pub run : outcome j limit start ≡ delayed c (outcome j (limit - c) (between core ram))
-  pub here : lone_after j start c ≡ between core ram
+  pub run : outcome j limit start ≡ delayed c (outcome j (limit - c) (lone_between core ram))
+  pub here : lone_after j start c ≡ lone_between core ram
   pub few : c ≤ limit
 
 module _ {j : Job} {start : Lone} {limit : ℕ} {core ram : List ℕ} {c : ℕ} (at : At j start limit core ram c) where
@@ -115,16 +115,16 @@ module _ {j : Job} {start : Lone} {limit : ℕ} {core ram : List ℕ} {c : ℕ} 
   at_exit e = at.run ∙ ap (delayed c) (exits j (limit - c) core ram e) ∙ ap (Exit core ram) (let f : 0 + c ≡ c = omega arith in f)
 
   pub at_limit : holds j.owner.text (reg core 0) ≡ true → c ≡ limit → outcome j limit start ≡ Running
-  at_limit e f = at.run ∙ ap (λ n. delayed c (outcome j n (between core ram))) (let g : limit - c ≡ 0 = omega arith in g) ∙ ap (delayed c) (ends j core ram e)
+  at_limit e f = at.run ∙ ap (λ n. delayed c (outcome j n (lone_between core ram))) (let g : limit - c ≡ 0 = omega arith in g) ∙ ap (delayed c) (ends j core ram e)
 
   pub data_limit : c ≡ limit → (lone_after j start limit).data_bytes ≡ ram
   data_limit f = ap (λ n. (lone_after j start n).data_bytes) (sym f) ∙ ap (λ l. l.data_bytes) at.here
 
-  pub at_broken : holds j.owner.text (reg core 0) ≡ true → next_insn j (between core ram) ≡ None → c ≢ limit → outcome j limit start ≡ Broken ram c
+  pub at_broken : holds j.owner.text (reg core 0) ≡ true → next_insn j (lone_between core ram) ≡ None → c ≢ limit → outcome j limit start ≡ Broken ram c
   at_broken e f ne = let few = at.few in at.run ∙ ap (delayed c) (breaks j (limit - c) core ram (omega arith) e f) ∙ ap (Broken ram) (let g : 0 + c ≡ c = omega arith in g)
 
-  module _ {after left : List ℕ} {insn : Insn} {k : ℕ} {closing : Bool} (some : 1 ≤ k) (home : holds j.owner.text (reg core 0) ≡ true) (found : next_insn j (between core ram) ≡ Some insn)
-      (does_it : lone_does j insn (between core ram) ≡ within after left (k - 1) closing) where
+  module _ {after left : List ℕ} {insn : Insn} {k : ℕ} {closing : Bool} (some : 1 ≤ k) (home : holds j.owner.text (reg core 0) ≡ true) (found : next_insn j (lone_between core ram) ≡ Some insn)
+      (does_it : lone_does j insn (lone_between core ram) ≡ within after left (k - 1) closing) where
     pub at_short : c ≢ limit → limit - c < k → outcome j limit start ≡ Running
     at_short ne h = let few = at.few in at.run ∙ ap (delayed c) (stays j core ram after left insn k closing some home found does_it (limit - c) (omega arith) h)
 

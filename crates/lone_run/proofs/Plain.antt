@@ -15,11 +15,11 @@ use Rattle.cpu_step.specs.Asked.{asks, effect}
 use Rattle.cpu_step.specs.Through.{AreAligned, Taken, taken, stored_in, through}
 use Rattle.cpu_step.specs.Lone.{Job, lone_read, lone_writes, lone_does, lone_who, all_inside, is_inside}
 use Rattle.cpu_step.proofs.ThroughLemmas.{AtMostOne, few_writes}
-use Rattle.lone_run.specs.Jobs.{between}
-use Rattle.lone_run.specs.internal.Sections.{Held, answered, after_held, after_put}
+use Rattle.lone_run.specs.Jobs.{lone_between}
+use Rattle.lone_run.specs.internal.Sections.{HeldSections, section_answer, after_held, after_put}
 
 shape : (j : Job) (core ram : List ℕ) (insn : Insn) → IsFalse (is_unit insn) →
-    lone_does j insn (between core ram)
+    lone_does j insn (lone_between core ram)
     ≡ record {
       core = (does insn core (map (lone_read j ram) (reads_of (plan insn core))) true).core;
       data_bytes = lone_writes j.owner ram (writes_of (plan insn core)) (does insn core (map (lone_read j ram) (reads_of (plan insn core))) true).stored;
@@ -33,12 +33,12 @@ shape j core ram _ free = refl
 -- ---- through the sections
 
 -- the sections before an instruction
-abbrev pub before : Job → List ℕ → Held
+abbrev pub before : Job → List ℕ → HeldSections
 before j ram = record { job = j; ram = ram; put = None }
 
-taken_is : (s : Held) (xs : List Access) → taken answered (λ t w a. t) s xs ≡ record { values = map (lone_read s.job s.ram) xs; state = s }
+taken_is : (s : HeldSections) (xs : List Access) → taken section_answer (λ t w a. t) s xs ≡ record { values = map (lone_read s.job s.ram) xs; state = s }
 taken_is s [] = refl
-taken_is s (x ∷ xs) = ap (λ (r : Taken Held). let t : Taken Held = record { values = lone_read s.job s.ram x ∷ r.values; state = r.state } in t) (taken_is s xs)
+taken_is s (x ∷ xs) = ap (λ (r : Taken HeldSections). let t : Taken HeldSections = record { values = lone_read s.job s.ram x ∷ r.values; state = r.state } in t) (taken_is s xs)
 
 stored_is : (j : Job) (ram : List ℕ) (xs : List Access) (values : List ℕ) → AtMostOne xs →
     after_put j.owner ram (stored_in after_held (before j ram) xs values).put ≡ lone_writes j.owner ram xs values
@@ -46,20 +46,20 @@ stored_is j ram (x ∷ xs) [] h = refl
 stored_is j ram (x ∷ y ∷ xs) (v ∷ values) h = absurd cc
 stored_is j ram _ _ h = refl
 
-pub plain_done : (j : Job) (core ram after left : List ℕ) (insn : Insn) (s : Held) (k : ℕ) → IsFalse (is_unit insn) →
-    after ≡ (through answered (λ t w a. t) after_held insn core true (before j ram)).core →
-    s ≡ (through answered (λ t w a. t) after_held insn core true (before j ram)).state →
+pub plain_done : (j : Job) (core ram after left : List ℕ) (insn : Insn) (s : HeldSections) (k : ℕ) → IsFalse (is_unit insn) →
+    after ≡ (through section_answer (λ t w a. t) after_held insn core true (before j ram)).core →
+    s ≡ (through section_answer (λ t w a. t) after_held insn core true (before j ram)).state →
     left ≡ after_put j.owner ram s.put → k ≡ cycles_of insn →
-    lone_does j insn (between core ram) ≡ record { core = after; data_bytes = left; rest = k - 1; closing = false }
+    lone_does j insn (lone_between core ram) ≡ record { core = after; data_bytes = left; rest = k - 1; closing = false }
 plain_done j core ram after left insn s k free ea es el ek =
     let xs : List Access = plan insn core in
     let values : List ℕ = map (lone_read j ram) (reads_of xs) in
-    let t : taken answered (λ t w a. t) (before j ram) (reads_of xs) ≡ record { values = values; state = before j ram } = taken_is (before j ram) (reads_of xs) in
-    let core_is : after ≡ (does insn core values true).core = ea ∙ ap (λ (r : Taken Held). (does insn core r.values true).core) t in
+    let t : taken section_answer (λ t w a. t) (before j ram) (reads_of xs) ≡ record { values = values; state = before j ram } = taken_is (before j ram) (reads_of xs) in
+    let core_is : after ≡ (does insn core values true).core = ea ∙ ap (λ (r : Taken HeldSections). (does insn core r.values true).core) t in
     let state_is : s ≡ stored_in after_held (before j ram) (writes_of xs) (does insn core values true).stored =
-    es ∙ ap (λ (r : Taken Held). stored_in after_held r.state (writes_of xs) (does insn core r.values true).stored) t in
+    es ∙ ap (λ (r : Taken HeldSections). stored_in after_held r.state (writes_of xs) (does insn core r.values true).stored) t in
     let left_is : left ≡ lone_writes j.owner ram (writes_of xs) (does insn core values true).stored =
-    el ∙ ap (λ (z : Held). after_put j.owner ram z.put) state_is ∙ stored_is j ram (writes_of xs) (does insn core values true).stored (few_writes insn core) in
+    el ∙ ap (λ (z : HeldSections). after_put j.owner ram z.put) state_is ∙ stored_is j ram (writes_of xs) (does insn core values true).stored (few_writes insn core) in
     shape j core ram insn free
     ∙ ap (λ c. record { core = c; data_bytes = lone_writes j.owner ram (writes_of xs) (does insn core values true).stored; rest = cycles_of insn - 1; closing = false }) (sym core_is)
     ∙ ap (λ d. record { core = after; data_bytes = d; rest = cycles_of insn - 1; closing = false }) (sym left_is)

@@ -19,7 +19,7 @@ use Rattle.attest.proofs.Tagging.{plan_by, effect_by}
 use Rattle.attest.proofs.Rows.{writes_of-reads, writes_of-writes}
 use Rattle.cpu_step.specs.Asked.{asks, effect}
 use Rattle.cpu_step.specs.Lone.{Job, Lone, lone_byte, lone_who, lone_read, lone_write, lone_writes, lone_does}
-use Rattle.lone_run.specs.Jobs.{between}
+use Rattle.lone_run.specs.Jobs.{lone_between}
 
 -- ---- bytes one by one
 
@@ -94,7 +94,7 @@ left_by j ram xs e = record { core = e.core; data_bytes = lone_writes j.owner ra
 
 -- no range, no tag
 pub tag_short : (j : Job) (core ram : List ℕ) → (in_range (reg core 12) (reg core 13) && in_range (reg core 14) (reg core 14 + 16)) ≡ false →
-    lone_does j (UnitOp Tag) (between core ram) ≡ record { core = put (next core) 15 0; data_bytes = ram; rest = 6 - 1; closing = false }
+    lone_does j (UnitOp Tag) (lone_between core ram) ≡ record { core = put (next core) 15 0; data_bytes = ram; rest = 6 - 1; closing = false }
 unfolding lone_does asks effect
 tag_short j core ram e =
     ap (λ xs. left_by j ram xs (unit_effect (lone_who j) Tag core (map (lone_read j ram) (reads_of xs)))) (plan_by (lone_who j) core j.owner refl false e)
@@ -133,7 +133,7 @@ module _ (j : Job) (core ram : List ℕ) where
 
   pub tag_done : (tag : List ℕ) (a n out : ℕ) → (in_range (reg core 12) (reg core 13) && in_range (reg core 14) (reg core 14 + 16)) ≡ true → length j.text ≡ size_of j.owner.text →
       a ≡ reg core 12 → n ≡ size → out ≡ reg core 14 → tag ≡ tag_of j.key j.owner j.text (map (lone_read j ram) (each_byte Read a n)) →
-      lone_does j (UnitOp Tag) (between core ram) ≡ record { core = put (next core) 15 1; data_bytes = lone_writes j.owner ram (each_byte Write out 16) tag; rest = 6 + 64 * blocks n - 1; closing = false }
+      lone_does j (UnitOp Tag) (lone_between core ram) ≡ record { core = put (next core) 15 1; data_bytes = lone_writes j.owner ram (each_byte Write out 16) tag; rest = 6 + 64 * blocks n - 1; closing = false }
   unfolding lone_does asks effect
   tag_done tag a n out e f ea en eo et =
       let same : tag_of j.key j.owner j.text message ≡ tag =

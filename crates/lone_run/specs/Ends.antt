@@ -5,11 +5,11 @@ use Rattle.lone_run.specs.declared.Outcome.{Outcome}
 use Rattle.lone_run.specs.declared.Outcome.TheVariants.{Exit, Closed, Broken, Running}
 
 -- the answer to a call that ends like this
-abbrev pub answer_of : lone.Outcome → Outcome
-answer_of (lone.Exit core left c) = Exit core c
-answer_of (lone.Closing core left c) = Closed core c
-answer_of (lone.Broken left c) = Broken c
-answer_of lone.Running = Running
+abbrev pub call_answer : lone.Outcome → Outcome
+call_answer (lone.Exit core left c) = Exit core c
+call_answer (lone.Closing core left c) = Closed core c
+call_answer (lone.Broken left c) = Broken c
+call_answer lone.Running = Running
 
 -- the data then: 0 once the module has closed, and as they stand where it runs on
 abbrev pub data_left : lone.Outcome → List ℕ → List ℕ

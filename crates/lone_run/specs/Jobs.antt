@@ -3,5 +3,5 @@ use Rattle.std.specs.Prelude.{ℕ, ◌-◌, List, false}
 use Rattle.cpu_step.specs.Lone as lone
 
 -- where the module stands between two instructions
-abbrev pub between : List ℕ → List ℕ → lone.Lone
-between core ram = record { core = core; data_bytes = ram; rest = 0; closing = false }
+abbrev pub lone_between : List ℕ → List ℕ → lone.Lone
+lone_between core ram = record { core = core; data_bytes = ram; rest = 0; closing = false }

@@ -6,8 +6,8 @@ ghost use Rattle.mod_layout.specs.Table.{size_of};
 ghost use Rattle.mod_layout.specs.Tables.{IsSection};
 ghost use Rattle.cpu_step.specs.Asked.{asks};
 ghost use Rattle.cpu_step.specs.Lone.{all_inside, is_alone, lone_does, lone_who};
-ghost use Rattle.lone_run.specs.Jobs.{between};
-ghost use Rattle.lone_run.specs.internal.Jobs.{call_of, lasting};
+ghost use Rattle.lone_run.specs.Jobs.{lone_between};
+ghost use Rattle.lone_run.specs.internal.Jobs.{lone_call, lasting};
 
 use crate::job::{Job, Lasts};
 use crate::sections::{Sections, settle};
@@ -21,8 +21,9 @@ use sm_words::Core;
 fn do_plain(job: &Job<'_>, ram: &mut [u8], core: &mut Core, insn: &Insn) -> Lasts
     requires decoded { IsDecoded insn.now }
     requires no_unit { IsFalse (is_unit insn.now) }
-    requires inside { all_inside (call_of job.now) (asks (lone_who (call_of job.now)) insn.now core.old) ≡ true }
-    ensures done { lone_does (call_of job.now) insn.now (between core.old ram.old) ≡ lasting core.new ram.new result }
+    requires inside { all_inside (lone_call job.now) (asks (lone_who (lone_call job.now)) insn.now core.old) ≡ true }
+    ensures done { lone_does (lone_call job.now) insn.now (lone_between core.old ram.old)
+        ≡ lasting core.new ram.new result }
     ensures some { 1 ≤ result.cycles }
 {
     let mut sections = Sections {
@@ -43,10 +44,11 @@ fn do_plain(job: &Job<'_>, ram: &mut [u8], core: &mut Core, insn: &Insn) -> Last
 pub fn do_insn(job: &Job<'_>, ram: &mut [u8], core: &mut Core, insn: &Insn) -> Lasts
     requires decoded { IsDecoded insn.now }
     requires alone { is_alone insn.now ≡ true }
-    requires inside { all_inside (call_of job.now) (asks (lone_who (call_of job.now)) insn.now core.old) ≡ true }
+    requires inside { all_inside (lone_call job.now) (asks (lone_who (lone_call job.now)) insn.now core.old) ≡ true }
     requires text { length job.now.text.now ≡ size_of job.now.owner.now.text }
     requires ram { IsSection job.now.owner.now.ram }
-    ensures done { lone_does (call_of job.now) insn.now (between core.old ram.old) ≡ lasting core.new ram.new result }
+    ensures done { lone_does (lone_call job.now) insn.now (lone_between core.old ram.old)
+        ≡ lasting core.new ram.new result }
     ensures some { 1 ≤ result.cycles }
 {
     match *insn {

@@ -5,9 +5,9 @@ ghost use Rattle.sm_words.specs.Words.{reg};
 ghost use Rattle.mod_layout.specs.Table.{holds, size_of};
 ghost use Rattle.mod_layout.specs.Tables.{IsSection};
 ghost use Rattle.cpu_step.specs.Lone.{job_of, outcome, lone_after};
-ghost use Rattle.lone_run.specs.Ends.{answer_of, data_left};
-ghost use Rattle.lone_run.specs.Jobs.{between};
-ghost use Rattle.lone_run.specs.internal.Jobs.{call_of};
+ghost use Rattle.lone_run.specs.Ends.{call_answer, data_left};
+ghost use Rattle.lone_run.specs.Jobs.{lone_between};
+ghost use Rattle.lone_run.specs.internal.Jobs.{lone_call};
 
 use crate::acting::do_insn;
 use crate::job::Job;
@@ -39,12 +39,12 @@ pub fn call(
     requires ram { IsSection «module».now.ram }
     requires text_size { length text.now ≡ size_of «module».now.text }
     requires limit { limit ≤ 2 ^ 62 }
-    ensures outcome { result ≡ answer_of (outcome (job_of node_key.now «module».now text.now entry.now.caller) limit
-        (between entry.now.core ram.old)) }
+    ensures outcome { result ≡ call_answer (outcome (job_of node_key.now «module».now text.now entry.now.caller) limit
+        (lone_between entry.now.core ram.old)) }
     ensures ram { ram.new ≡ data_left (outcome (job_of node_key.now «module».now text.now entry.now.caller) limit
-        (between entry.now.core ram.old)) (lone_after
+        (lone_between entry.now.core ram.old)) (lone_after
         (job_of node_key.now «module».now text.now entry.now.caller)
-        (between entry.now.core ram.old) limit).data_bytes }
+        (lone_between entry.now.core ram.old) limit).data_bytes }
 {
     let job = Job {
         node_key,
@@ -67,9 +67,9 @@ fn run(job: &Job<'_>, ram: &mut [u8], entry: Core, limit: u64) -> Outcome
     requires ram { IsSection job.now.owner.now.ram }
     requires text { length job.now.text.now ≡ size_of job.now.owner.now.text }
     requires limit { limit ≤ 2 ^ 62 }
-    ensures outcome { result ≡ answer_of (outcome (call_of job.now) limit (between entry ram.old)) }
-    ensures ram { ram.new ≡ data_left (outcome (call_of job.now) limit (between entry ram.old))
-        (lone_after (call_of job.now) (between entry ram.old) limit).data_bytes }
+    ensures outcome { result ≡ call_answer (outcome (lone_call job.now) limit (lone_between entry ram.old)) }
+    ensures ram { ram.new ≡ data_left (outcome (lone_call job.now) limit (lone_between entry ram.old))
+        (lone_after (lone_call job.now) (lone_between entry ram.old) limit).data_bytes }
 {
     let mut core = entry;
     let mut cycles: u64 = 0;

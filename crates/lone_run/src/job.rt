@@ -3,7 +3,7 @@
 ghost use Rattle.std.specs.Prelude.{◌≡◌, ◌<◌, ◌-◌, ◌^◌, slice_index, slice_set};
 ghost use Rattle.sm_words.specs.Words.{word_at};
 ghost use Rattle.cpu_step.specs.Lone.{lone_byte, lone_read, lone_write, inside_by, is_inside};
-ghost use Rattle.lone_run.specs.internal.Jobs.{call_of};
+ghost use Rattle.lone_run.specs.internal.Jobs.{lone_call};
 
 use cpu_step::{Access, Kind};
 use mod_layout::Module;
@@ -48,7 +48,7 @@ fn set(bytes: &mut [u8], place: usize, byte: u8)
 
 /// The byte at an address of the text or the data.
 pub fn byte(job: &Job<'_>, ram: &[u8], addr: usize) -> u16
-    ensures value { result ≡ lone_byte (call_of job.now) ram.now addr }
+    ensures value { result ≡ lone_byte (lone_call job.now) ram.now addr }
     ensures small { result < 256 }
 {
     if job.owner.text.holds(addr) {
@@ -64,14 +64,14 @@ pub fn byte(job: &Job<'_>, ram: &[u8], addr: usize) -> u16
 /// The word at an address, low byte first.
 pub fn word(job: &Job<'_>, ram: &[u8], addr: usize) -> u16
     requires small { addr < 2 ^ 32 }
-    ensures { result ≡ word_at (lone_byte (call_of job.now) ram.now) addr }
+    ensures { result ≡ word_at (lone_byte (lone_call job.now) ram.now) addr }
 {
     byte(job, ram, addr) + 256 * byte(job, ram, addr + 1)
 }
 
 /// What a read gives.
 pub fn read(job: &Job<'_>, ram: &[u8], access: Access) -> u16
-    ensures { result ≡ lone_read (call_of job.now) ram.now access }
+    ensures { result ≡ lone_read (lone_call job.now) ram.now access }
 {
     let addr = usize::from(access.addr);
     match access.width {
@@ -95,7 +95,7 @@ pub fn write(owner: &Module, ram: &mut [u8], access: Access, value: u16)
 
 /// Whether an access of this kind at an address stays in the two sections.
 fn is_home(job: &Job<'_>, kind: Kind, addr: usize) -> bool
-    ensures { result ≡ inside_by kind (call_of job.now) addr }
+    ensures { result ≡ inside_by kind (lone_call job.now) addr }
 {
     match kind {
         Kind::Read => job.owner.text.holds(addr) || job.owner.ram.holds(addr),
@@ -106,7 +106,7 @@ fn is_home(job: &Job<'_>, kind: Kind, addr: usize) -> bool
 
 /// Whether an access is aligned and stays in the two sections.
 pub fn is_inside(job: &Job<'_>, access: Access) -> bool
-    ensures { result ≡ is_inside (call_of job.now) access }
+    ensures { result ≡ is_inside (lone_call job.now) access }
 {
     !is_misaligned(access.width, access.addr) && is_home(job, access.kind, usize::from(access.addr))
 }

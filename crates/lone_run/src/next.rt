@@ -11,7 +11,7 @@ ghost use Rattle.cpu_step.specs.Fetched.{later_word, insn_at, word_in, insn_from
 ghost use Rattle.cpu_step.specs.Asked.{asks};
 ghost use Rattle.cpu_step.specs.Lone.{lone_byte, lone_who, is_alone, all_inside, may_do};
 ghost use Rattle.cpu_step.specs.Lone.{next_insn, Lone};
-ghost use Rattle.lone_run.specs.internal.Jobs.{call_of};
+ghost use Rattle.lone_run.specs.internal.Jobs.{lone_call};
 
 use crate::job::{Job, is_inside, word};
 use attest::in_range;
@@ -21,14 +21,14 @@ use sm_words::{Core, PC, Width};
 
 /// Whether word `k` of an instruction of `n` words at `pc`, if there is one, is in the text.
 fn has_word(job: &Job<'_>, pc: u16, n: u16, k: u16) -> bool
-    ensures { result ≡ word_in (call_of job.now).owner.text pc n k }
+    ensures { result ≡ word_in (lone_call job.now).owner.text pc n k }
 {
     k >= n || job.owner.text.holds(usize::from(pc) + 2 * usize::from(k))
 }
 
 /// Word `k` of an instruction of `n` words at `pc`, and 0 past its last.
 fn later(job: &Job<'_>, ram: &[u8], pc: u16, n: u16, k: u16) -> u16
-    ensures { result ≡ later_word (lone_byte (call_of job.now) ram.now) pc n k }
+    ensures { result ≡ later_word (lone_byte (lone_call job.now) ram.now) pc n k }
 {
     if k < n {
         word(job, ram, usize::from(pc) + 2 * usize::from(k))
@@ -39,7 +39,7 @@ fn later(job: &Job<'_>, ram: &[u8], pc: u16, n: u16, k: u16) -> u16
 
 /// The instruction of `n` words at `pc`.
 fn insn_at(job: &Job<'_>, ram: &[u8], pc: u16, n: u16) -> Option<Insn>
-    ensures exact { result ≡ insn_at (lone_byte (call_of job.now) ram.now) pc n }
+    ensures exact { result ≡ insn_at (lone_byte (lone_call job.now) ram.now) pc n }
     ensures decoded { IfSome result (λ insn. IsDecoded insn) }
 {
     decode(
@@ -69,7 +69,7 @@ fn is_unit_alone(name: UnitName) -> bool
 
 /// Whether each of these accesses is aligned and stays in the two sections.
 fn all_inside(job: &Job<'_>, accesses: &[Access]) -> bool
-    ensures { result ≡ all_inside (call_of job.now) accesses.now }
+    ensures { result ≡ all_inside (lone_call job.now) accesses.now }
 {
     for access in accesses {
         if !is_inside(job, *access) {
@@ -83,7 +83,7 @@ fn all_inside(job: &Job<'_>, accesses: &[Access]) -> bool
 #[tactic(auto, using(crate::proofs::Ranges::bytes_next, crate::proofs::Ranges::bytes_other, crate::proofs::Ranges::bytes_end))]
 fn has_bytes(job: &Job<'_>, kind: Kind, start: u16, count: u16) -> bool
     requires { start + count ≤ 65536 }
-    ensures { result ≡ all_inside (call_of job.now) (each_byte kind start count) }
+    ensures { result ≡ all_inside (lone_call job.now) (each_byte kind start count) }
 {
     for k in 0..count {
         let access = Access {
@@ -117,7 +117,7 @@ fn both(first: bool, second: bool) -> bool
 /// Whether the accesses of a tag stay in the two sections.
 #[tactic(auto, using(crate::proofs::Ranges::tag_ranges, crate::proofs::Ranges::tag_none), unfolding(attest::specs::Units::unit_plan))]
 fn has_tag(job: &Job<'_>, core: &Core) -> bool
-    ensures { result ≡ all_inside (call_of job.now) (unit_plan (lone_who (call_of job.now)) Tag core.now) }
+    ensures { result ≡ all_inside (lone_call job.now) (unit_plan (lone_who (lone_call job.now)) Tag core.now) }
 {
     if !has_ranges(core) {
         return true;
@@ -132,7 +132,7 @@ fn has_tag(job: &Job<'_>, core: &Core) -> bool
 #[tactic(auto, unfolding(attest::specs::Units::unit_plan))]
 fn stays_in_unit(job: &Job<'_>, name: UnitName, core: &Core) -> bool
     requires { is_alone (UnitOp name) ≡ true }
-    ensures { result ≡ all_inside (call_of job.now) (unit_plan (lone_who (call_of job.now)) name core.now) }
+    ensures { result ≡ all_inside (lone_call job.now) (unit_plan (lone_who (lone_call job.now)) name core.now) }
 {
     match name {
         UnitName::Tag => has_tag(job, core),
@@ -145,7 +145,7 @@ fn stays_in_unit(job: &Job<'_>, name: UnitName, core: &Core) -> bool
 #[tactic(auto, unfolding(cpu_step::specs::Asked::asks))]
 fn stays(job: &Job<'_>, insn: &Insn, core: &Core) -> bool
     requires { is_alone insn.now ≡ true }
-    ensures { result ≡ all_inside (call_of job.now) (asks (lone_who (call_of job.now)) insn.now core.now) }
+    ensures { result ≡ all_inside (lone_call job.now) (asks (lone_who (lone_call job.now)) insn.now core.now) }
 {
     match *insn {
         Insn::Unit(name) => stays_in_unit(job, name, core),
@@ -159,12 +159,12 @@ fn stays(job: &Job<'_>, insn: &Insn, core: &Core) -> bool
 fn may_do(job: &Job<'_>, core: &Core, insn: Option<Insn>) -> Option<Insn>
     requires { IfSome insn (λ insn. IsDecoded insn) }
     ensures exact { (ram : List ℕ) (rest : ℕ) (closing : Bool) →
-        result ≡ may_do (call_of job.now)
+        result ≡ may_do (lone_call job.now)
         (record { core = core.now; data_bytes = ram; rest = rest; closing = closing }) insn }
     ensures decoded { IfSome result (λ insn. IsDecoded insn) }
     ensures alone { IfSome result (λ insn. is_alone insn ≡ true) }
-    ensures inside { IfSome result (λ insn. all_inside (call_of job.now)
-        (asks (lone_who (call_of job.now)) insn core.now) ≡ true) }
+    ensures inside { IfSome result (λ insn. all_inside (lone_call job.now)
+        (asks (lone_who (lone_call job.now)) insn core.now) ≡ true) }
 {
     match insn {
         Some(insn) => {
@@ -180,8 +180,8 @@ fn may_do(job: &Job<'_>, core: &Core, insn: Option<Insn>) -> Option<Insn>
 
 /// The instruction of `n` words at `pc`, where all of it is in the text.
 fn whole(job: &Job<'_>, ram: &[u8], pc: u16, n: u16) -> Option<Insn>
-    ensures exact { result ≡ (if word_in (call_of job.now).owner.text pc n 1 && word_in (call_of job.now).owner.text pc n 2
-        then insn_at (lone_byte (call_of job.now) ram.now) pc n else None) }
+    ensures exact { result ≡ (if word_in (lone_call job.now).owner.text pc n 1 && word_in (lone_call job.now).owner.text pc n 2
+        then insn_at (lone_byte (lone_call job.now) ram.now) pc n else None) }
     ensures decoded { IfSome result (λ insn. IsDecoded insn) }
 {
     let home = both(has_word(job, pc, n, 1), has_word(job, pc, n, 2));
@@ -190,7 +190,7 @@ fn whole(job: &Job<'_>, ram: &[u8], pc: u16, n: u16) -> Option<Insn>
 
 /// The instruction at `pc`, where its first word tells its length.
 fn insn_from(first: Option<Insn>, job: &Job<'_>, ram: &[u8], pc: u16) -> Option<Insn>
-    ensures exact { result ≡ insn_from first (lone_byte (call_of job.now) ram.now) (call_of job.now).owner.text pc }
+    ensures exact { result ≡ insn_from first (lone_byte (lone_call job.now) ram.now) (lone_call job.now).owner.text pc }
     ensures decoded { IfSome result (λ insn. IsDecoded insn) }
 {
     match first {
@@ -201,7 +201,7 @@ fn insn_from(first: Option<Insn>, job: &Job<'_>, ram: &[u8], pc: u16) -> Option<
 
 /// The instruction at `pc`, where all of it is in the text.
 fn insn_in(job: &Job<'_>, ram: &[u8], pc: u16) -> Option<Insn>
-    ensures exact { result ≡ insn_in (lone_byte (call_of job.now) ram.now) (call_of job.now).owner.text pc }
+    ensures exact { result ≡ insn_in (lone_byte (lone_call job.now) ram.now) (lone_call job.now).owner.text pc }
     ensures decoded { IfSome result (λ insn. IsDecoded insn) }
 {
     let first = decode(word(job, ram, usize::from(pc)), 0, 0);
@@ -211,12 +211,12 @@ fn insn_in(job: &Job<'_>, ram: &[u8], pc: u16) -> Option<Insn>
 /// The instruction that the module does next, where all of it is in the text and it may do it.
 #[tactic(auto, unfolding(cpu_step::specs::Lone::next_insn))]
 pub fn next_insn(job: &Job<'_>, ram: &[u8], core: &Core) -> Option<Insn>
-    ensures exact { (rest : ℕ) (closing : Bool) → result ≡ next_insn (call_of job.now)
+    ensures exact { (rest : ℕ) (closing : Bool) → result ≡ next_insn (lone_call job.now)
         (record { core = core.now; data_bytes = ram.now; rest = rest; closing = closing }) }
     ensures decoded { IfSome result (λ insn. IsDecoded insn) }
     ensures alone { IfSome result (λ insn. is_alone insn ≡ true) }
-    ensures inside { IfSome result (λ insn. all_inside (call_of job.now)
-        (asks (lone_who (call_of job.now)) insn core.now) ≡ true) }
+    ensures inside { IfSome result (λ insn. all_inside (lone_call job.now)
+        (asks (lone_who (lone_call job.now)) insn core.now) ≡ true) }
 {
     let insn = insn_in(job, ram, core.get(PC));
     may_do(job, core, insn)

@@ -27,14 +27,14 @@ pub struct Sections<'a> {
 impl<'a> Port for Sections<'a> {
     ghost use Rattle.std.specs.Prelude.{Some};
     ghost use Rattle.cpu_step.specs.Lone.{lone_byte, value_at};
-    ghost use Rattle.lone_run.specs.internal.Jobs.{call_of};
-    ghost use Rattle.lone_run.specs.internal.Sections.{Held, held, answered, after_held};
+    ghost use Rattle.lone_run.specs.internal.Jobs.{lone_call};
+    ghost use Rattle.lone_run.specs.internal.Sections.{HeldSections, held, section_answer, after_held};
 
-    ghost State = { Held };
+    ghost State = { HeldSections };
 
     ghost state = { held };
 
-    ghost answer = { answered };
+    ghost answer = { section_answer };
 
     ghost after_read = { λ s width addr. s };
 

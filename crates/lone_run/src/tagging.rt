@@ -7,7 +7,7 @@ ghost use Rattle.mod_keys.specs.Keys.{tag_of};
 ghost use Rattle.pc_access.specs.declared.Kind.TheVariants.{Read, Write};
 ghost use Rattle.attest.specs.Units.{each_byte};
 ghost use Rattle.cpu_step.specs.Lone.{lone_read, lone_writes};
-ghost use Rattle.lone_run.specs.internal.Jobs.{call_of};
+ghost use Rattle.lone_run.specs.internal.Jobs.{lone_call};
 
 use crate::job::{Job, byte, write};
 use cpu_step::{Access, Kind};
@@ -20,7 +20,7 @@ use sm_words::Width;
 fn feed(hmac: &mut Hmac, job: &Job<'_>, ram: &[u8], start: u16, count: u16)
     requires { start + count ≤ 65536 }
     ensures { (key message : List ℕ) → IsFed hmac.old key message
-        → IsFed hmac.new key (message ++ map (lone_read (call_of job.now) ram.now) (each_byte Read start count)) }
+        → IsFed hmac.new key (message ++ map (lone_read (lone_call job.now) ram.now) (each_byte Read start count)) }
 {
     for k in 0..count {
         let value = byte(job, ram, usize::from(start + k)) as u8;
@@ -33,7 +33,7 @@ pub fn tag_of(job: &Job<'_>, ram: &[u8], start: u16, count: u16) -> [u8; 16]
     requires text { length job.now.text.now ≡ size_of job.now.owner.now.text }
     requires fits { start + count ≤ 65536 }
     ensures { result ≡ tag_of job.now.node_key.now job.now.owner.now job.now.text.now
-        (map (lone_read (call_of job.now) ram.now) (each_byte Read start count)) }
+        (map (lone_read (lone_call job.now) ram.now) (each_byte Read start count)) }
 {
     let key = module_key(job.node_key, job.owner, job.text);
     let mut hmac = Hmac::new(&key);

@@ -7,8 +7,8 @@ ghost use Rattle.mod_layout.specs.Table.{size_of};
 ghost use Rattle.mod_layout.specs.Tables.{IsSection};
 ghost use Rattle.attest.specs.Units.{next, CallerId, OwnId, Tag, Unprotect};
 ghost use Rattle.cpu_step.specs.Lone.{is_alone, lone_does};
-ghost use Rattle.lone_run.specs.Jobs.{between};
-ghost use Rattle.lone_run.specs.internal.Jobs.{call_of, lasting};
+ghost use Rattle.lone_run.specs.Jobs.{lone_between};
+ghost use Rattle.lone_run.specs.internal.Jobs.{lone_call, lasting};
 
 use crate::job::{Job, Lasts};
 use crate::next::has_ranges;
@@ -42,7 +42,8 @@ fn answer(core: &mut Core, value: u16, cycles: u32) -> Lasts
 #[tactic(auto, unfolding(cpu_step::specs::Lone::lone_does, cpu_step::specs::Asked::asks, cpu_step::specs::Asked::effect, attest::specs::Units::unit_plan, attest::specs::Units::unit_effect))]
 fn unprotect(job: &Job<'_>, ram: &[u8], core: &mut Core) -> Lasts
     requires { IsSection job.now.owner.now.ram }
-    ensures done { lone_does (call_of job.now) (UnitOp Unprotect) (between core.old ram.now) ≡ lasting core.new ram.now result }
+    ensures done { lone_does (lone_call job.now) (UnitOp Unprotect) (lone_between core.old ram.now)
+        ≡ lasting core.new ram.now result }
     ensures some { 1 ≤ result.cycles }
 {
     step_past(core);
@@ -56,7 +57,8 @@ fn unprotect(job: &Job<'_>, ram: &[u8], core: &mut Core) -> Lasts
 #[tactic(auto, using(crate::proofs::Tags::tag_short, crate::proofs::Tags::tag_done))]
 fn tag(job: &Job<'_>, ram: &mut [u8], core: &mut Core) -> Lasts
     requires text { length job.now.text.now ≡ size_of job.now.owner.now.text }
-    ensures done { lone_does (call_of job.now) (UnitOp Tag) (between core.old ram.old) ≡ lasting core.new ram.new result }
+    ensures done { lone_does (lone_call job.now) (UnitOp Tag) (lone_between core.old ram.old)
+        ≡ lasting core.new ram.new result }
     ensures some { 1 ≤ result.cycles }
 {
     if !has_ranges(core) {
@@ -76,7 +78,8 @@ fn tag(job: &Job<'_>, ram: &mut [u8], core: &mut Core) -> Lasts
 /// R15 is the module's own id.
 #[tactic(auto, unfolding(cpu_step::specs::Lone::lone_does, cpu_step::specs::Asked::asks, cpu_step::specs::Asked::effect, attest::specs::Units::unit_plan, attest::specs::Units::unit_effect))]
 fn own_id(job: &Job<'_>, ram: &[u8], core: &mut Core) -> Lasts
-    ensures done { lone_does (call_of job.now) (UnitOp OwnId) (between core.old ram.now) ≡ lasting core.new ram.now result }
+    ensures done { lone_does (lone_call job.now) (UnitOp OwnId) (lone_between core.old ram.now)
+        ≡ lasting core.new ram.now result }
     ensures some { 1 ≤ result.cycles }
 {
     answer(core, job.owner.id, SHORT_CYCLES)
@@ -85,7 +88,8 @@ fn own_id(job: &Job<'_>, ram: &[u8], core: &mut Core) -> Lasts
 /// R15 is the caller's id.
 #[tactic(auto, unfolding(cpu_step::specs::Lone::lone_does, cpu_step::specs::Asked::asks, cpu_step::specs::Asked::effect, attest::specs::Units::unit_plan, attest::specs::Units::unit_effect))]
 fn caller_id(job: &Job<'_>, ram: &[u8], core: &mut Core) -> Lasts
-    ensures done { lone_does (call_of job.now) (UnitOp CallerId) (between core.old ram.now) ≡ lasting core.new ram.now result }
+    ensures done { lone_does (lone_call job.now) (UnitOp CallerId) (lone_between core.old ram.now)
+        ≡ lasting core.new ram.now result }
     ensures some { 1 ≤ result.cycles }
 {
     answer(core, job.caller, SHORT_CYCLES)
@@ -96,7 +100,7 @@ pub fn do_unit(job: &Job<'_>, ram: &mut [u8], core: &mut Core, name: UnitName) -
     requires alone { is_alone (UnitOp name) ≡ true }
     requires text { length job.now.text.now ≡ size_of job.now.owner.now.text }
     requires ram { IsSection job.now.owner.now.ram }
-    ensures done { lone_does (call_of job.now) (UnitOp name) (between core.old ram.old)
+    ensures done { lone_does (lone_call job.now) (UnitOp name) (lone_between core.old ram.old)
         ≡ lasting core.new ram.new result }
     ensures some { 1 ≤ result.cycles }
 {

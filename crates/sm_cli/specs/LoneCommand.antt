@@ -10,7 +10,7 @@ use Rattle.image_text.specs.Image.{Image}
 use Rattle.tracer.specs.Lines.{registers_from}
 use Rattle.written_machine.specs.Peers.{section}
 use Rattle.cpu_step.specs.Lone as lone
-use Rattle.lone_run.specs.Ends.{answer_of}
+use Rattle.lone_run.specs.Ends.{call_answer}
 use Rattle.lone_run.specs.declared.Outcome.{Outcome as End}
 use Rattle.lone_run.specs.declared.Outcome.TheVariants.{Exit, Closed, Broken, Running}
 use Rattle.cli_files.specs.declared.answers.Status.TheVariants as status
@@ -52,7 +52,7 @@ end_answer limit end = record { text = end_line limit end; status = status.Done 
 
 abbrev pub lone_by : Image → List ℕ → ℕ → Option Module → Outcome
 lone_by value registers limit owner =
-    option_map_or (λ m. gives (end_answer limit (answer_of (end_of value m registers limit)))) owner nothing
+    option_map_or (λ m. gives (end_answer limit (call_answer (end_of value m registers limit)))) owner nothing
 
 abbrev pub lone_outcome : ℕ → ℕ → List ℕ → List Held → Outcome
 lone_outcome id limit registers (an_image value ∷ []) = lone_by value registers limit (module_of id value.table)

@@ -5,8 +5,8 @@ use Rattle.lone_run.specs.declared.job.Job.{Job}
 use Rattle.lone_run.specs.declared.job.Lasts.{Lasts}
 
 -- the call of the module by itself
-abbrev pub call_of : Job → lone.Job
-call_of j = lone.job_of j.node_key.now j.owner.now j.text.now j.caller
+abbrev pub lone_call : Job → lone.Job
+lone_call j = lone.job_of j.node_key.now j.owner.now j.text.now j.caller
 
 -- where it stands in the first cycle of an instruction that lasts like this
 abbrev pub lasting : List ℕ → List ℕ → Lasts → lone.Lone

@@ -4,25 +4,25 @@ use Rattle.sm_words.specs.declared.width.Width.{Width}
 use Rattle.mod_layout.specs.declared.Module.{Module}
 use Rattle.pc_access.specs.declared.Kind.TheVariants.{Write}
 use Rattle.cpu_step.specs.Lone as lone
-use Rattle.lone_run.specs.internal.Jobs.{call_of}
+use Rattle.lone_run.specs.internal.Jobs.{lone_call}
 use Rattle.lone_run.specs.declared.sections.Put.{Put}
 use Rattle.lone_run.specs.declared.sections.Sections.{Sections}
 
 -- whose call it is, the data before the instruction, and its write
-pub record Held : Type 0 where
+pub record HeldSections : Type 0 where
   pub job : lone.Job
   pub ram : List ℕ
   pub put : Option Put
 
-abbrev pub held : Sections → Held
-held s = record { job = call_of s.job; ram = s.ram.now; put = s.put }
+abbrev pub held : Sections → HeldSections
+held s = record { job = lone_call s.job; ram = s.ram.now; put = s.put }
 
 -- what a read gives
-abbrev pub answered : Held → Width → ℕ → ℕ
-answered s w a = lone.value_at w (lone.lone_byte s.job s.ram) a
+abbrev pub section_answer : HeldSections → Width → ℕ → ℕ
+section_answer s w a = lone.value_at w (lone.lone_byte s.job s.ram) a
 
 -- the write is kept
-abbrev pub after_held : Held → Width → ℕ → ℕ → Held
+abbrev pub after_held : HeldSections → Width → ℕ → ℕ → HeldSections
 after_held s w a v =
     record s { put = Some (record { access = record { kind = Write; addr = a; width = w }; value = v }) }
 

@@ -1,7 +1,7 @@
 //! `lone IMAGE ID LIMIT PAIR..`: how a call of a module by itself ends.
 ghost use Rattle.std.specs.Prelude.{◌≡◌, ◌≤◌, ◌+◌, ◌++◌, IfOk, IfSome, length, option_map};
 ghost use Rattle.arrayvec.specs.ArrayString.{array_string_len};
-ghost use Rattle.lone_run.specs.Ends.{answer_of};
+ghost use Rattle.lone_run.specs.Ends.{call_answer};
 ghost use Rattle.mod_layout.specs.Tables.{IsModule};
 ghost use Rattle.sm_io.specs.Sink.{Took, CutOff};
 ghost use Rattle.tracer.specs.Lines.{registers_from};
@@ -110,7 +110,7 @@ fn end_of(
 ) -> Result<Outcome, AllocError>
     requires chosen { IsModule chosen.now.image.table.given chosen.now.«module» }
     requires limit { limit ≤ MAX_CYCLES }
-    ensures { IfOk result (λ end. end ≡ answer_of (end_of chosen.now.image chosen.now.«module» registers limit)) }
+    ensures { IfOk result (λ end. end ≡ call_answer (end_of chosen.now.image chosen.now.«module» registers limit)) }
 {
     let module = &chosen.module;
     let mut data = data_of(chosen).to_vec(alloc)?;

@@ -1,5 +1,5 @@
 use Rattle.std.proofs.Common.{◌≡◌, ◌∙◌, ℕ, List, [], ◌∷◌, ap, subst}
-use Rattle.lone_run.specs.Ends.{answer_of}
+use Rattle.lone_run.specs.Ends.{call_answer}
 use Rattle.lone_run.specs.declared.Outcome.{Outcome as End}
 use Rattle.sm_io.specs.Sink.{Took, CutOff}
 use Rattle.cli_files.specs.Files.{an_image}
@@ -15,8 +15,8 @@ returns-in-Ok-end_of-clause-ok g c =
     let registers = core_with own.pairs.items in
     let chosen = c.in-Ok.chosen in
     let same : c.core_with.result ≡ registers = c.core_with.ensures ∙ ap core_with c.as_slice.ensures.value in
-    let ended = c.in-Ok-end_of.ensures ∙ ap (λ (r : List ℕ). answer_of (end_of chosen.image chosen.«module» r own.limit)) same in
-    let told = end_answer own.limit (answer_of (end_of chosen.image chosen.«module» registers own.limit)) in
+    let ended = c.in-Ok-end_of.ensures ∙ ap (λ (r : List ℕ). call_answer (end_of chosen.image chosen.«module» r own.limit)) same in
+    let told = end_answer own.limit (call_answer (end_of chosen.image chosen.«module» registers own.limit)) in
     record {
       answer = told;
       served = gives_answer (g.F.Files.content c.args.files.now) (lone_command own.image.now own.id own.limit (core_with own.pairs.items)) told
