@@ -19,7 +19,7 @@ use Rattle.schedule_file.specs.declared.Entry.{Entry}
 use Rattle.schedule_file.specs.declared.TheConstants.{MAX_CYCLE}
 use Rattle.schedule_file.specs.declared.What.{What}
 use Rattle.schedule_file.specs.declared.What.TheVariants.{Serial, Up, Down}
-use Rattle.schedule_file.specs.Entries.{IsEntry, IsWhat}
+use Rattle.schedule_file.specs.Entries.{IsScheduleEntry, IsWhat}
 use Rattle.texts.specs.Words.{is_space}
 use Rattle.schedule_file.specs.Line.{move_of, what_of, entry_at, entry_of, what_text, entry_text}
 use Rattle.schedule_file.specs.Laws.{EntriesAreRead}
@@ -99,14 +99,14 @@ at_cycle-parts (Some cycle) None e h = absurd cc
 at_cycle-parts None (Some what) e h = absurd cc
 at_cycle-parts None None e h = absurd cc
 
-entry_from : (line : List ℕ) (e : Entry) → entry_of line ≡ Some e → IsEntry e × (line ≡ entry_text e)
+entry_from : (line : List ℕ) (e : Entry) → entry_of line ≡ Some e → IsScheduleEntry e × (line ≡ entry_text e)
 unfolding entry_of
 entry_from line e h = by (cases_lt (position_or_len is_space line) (length line))
   where
     parts : (read_decimal MAX_CYCLE (before_first is_space line) ≡ Some e.cycle) × (what_of (after_first is_space line) ≡ Some e.what)
     parts = at_cycle-parts _ _ e h
 
-    by : (position_or_len is_space line < length line) ⊎ (length line ≤ position_or_len is_space line) → IsEntry e × (line ≡ entry_text e)
+    by : (position_or_len is_space line < length line) ⊎ (length line ≤ position_or_len is_space line) → IsScheduleEntry e × (line ≡ entry_text e)
     by (inl found) =
         let r = (decimals_are_read MAX_CYCLE (lit< tt) (before_first is_space line) e.cycle).0 parts.0 in
         let w = what_from (after_first is_space line) e.what parts.1 in
@@ -119,7 +119,7 @@ entry_from line e h = by (cases_lt (position_or_len is_space line) (length line)
         let what : what_of [] ≡ Some e.what = sym (ap what_of nothing) ∙ parts.1 in
         absurd cc
 
-entry_to : (e : Entry) → IsEntry e → entry_of (entry_text e) ≡ Some e
+entry_to : (e : Entry) → IsScheduleEntry e → entry_of (entry_text e) ≡ Some e
 unfolding entry_of
 entry_to e h =
     let low = h.0 in

@@ -25,5 +25,5 @@ IsWhat (Serial byte) = byte < 256
 IsWhat (Up line) = line < 4
 IsWhat (Down line) = line < 4
 
-abbrev pub IsEntry : Entry → Type 0
-IsEntry e = (e.cycle < 10 ^ 18) × IsWhat e.what
+abbrev pub IsScheduleEntry : Entry → Type 0
+IsScheduleEntry e = (e.cycle < 10 ^ 18) × IsWhat e.what

@@ -12,7 +12,7 @@ use Rattle.texts.proofs.LineLemmas.{ended_lines-before, unended-before}
 use Rattle.texts.proofs.WordLemmas.{decimal_has_no}
 use Rattle.schedule_file.specs.declared.Entry.{Entry}
 use Rattle.schedule_file.specs.declared.What.TheVariants.{Serial}
-use Rattle.schedule_file.specs.Entries.{IsEntry}
+use Rattle.schedule_file.specs.Entries.{IsScheduleEntry}
 use Rattle.schedule_file.specs.Laws.{EntriesAreRead}
 use Rattle.schedule_file.specs.Line.{entry_of, entry_text}
 use Rattle.texts.specs.Rows.{after_these, rows_from}
@@ -40,7 +40,7 @@ serial_clean cycle byte low small =
 
 pub record IsSent (low : ℕ) (e : Entry) : Type 0 where
   pub rises : low ≤ e.cycle
-  pub entry : IsEntry e
+  pub entry : IsScheduleEntry e
   pub clean : HasNoFeed (entry_text e)
 
 abbrev pub Rise : ℕ → List Entry → Type 0
