@@ -14,7 +14,7 @@ use Rattle.written_machine.specs.Standing.{last_standing}
 use Rattle.written_machine.specs.State.{State}
 use Rattle.board.specs.declared.machine.Machine.{Machine}
 use Rattle.board.specs.declared.moment.Moment.{Moment}
-use Rattle.board.specs.internal.Sound.{Chained, IsInStep, IsSound, Keeps, LeadsTo, RunsTo, Stands, last_number, number_of}
+use Rattle.board.specs.internal.Sound.{Chained, IsInStep, IsSound, Keeps, LeadsTo, RunsTo, Stands, last_number, state_number}
 use Rattle.board.specs.internal.Standing.{Lasting, cut, mark_state, lasting_of, marked_of, marks_of, moment_state, state_of, states_at}
 use Rattle.board.proofs.Leading.{found_by_number, leads_number, none_numbered, some_numbered}
 use Rattle.board.proofs.MarkedStates.{chained_cut, chained_more, states_get, states_length, states_more, states_take}
@@ -201,8 +201,8 @@ last_is addr k m ts g seen h live =
 
 -- by the number that was found, from the moment's state
 last_found : (addr k : ℕ) (m : Machine) (ts : List Moment) (t : Moment) (o : Option ℕ) → Keeps m ts → k < length ts → t ≡ get_or ts k t →
-    o ≡ last_number addr (mark_state (lasting_of m) k t) m.cycle → o ≡ number_of (last_of addr k m ts)
-last_found addr k m ts t o h live at e = e ∙ ap (λ (s : State). number_of (last_standing addr s (m.cycle - s.cycle))) (mark_is m ts k t h live at)
+    o ≡ last_number addr (mark_state (lasting_of m) k t) m.cycle → o ≡ state_number (last_of addr k m ts)
+last_found addr k m ts t o h live at e = e ∙ ap (λ (s : State). state_number (last_standing addr s (m.cycle - s.cycle))) (mark_is m ts k t h live at)
 
 pub last_none : (addr k : ℕ) (m : Machine) (ts : List Moment) (t : Moment) (g : Marked) → marked_of m ts ≡ g → Keeps m ts → k < length ts → t ≡ get_or ts k t →
     None ≡ last_number addr (mark_state (lasting_of m) k t) m.cycle → last_at addr k g ≡ None

@@ -7,7 +7,7 @@ use Rattle.written_machine.specs.Standing.{stands_at, this_or, last_standing}
 use Rattle.written_machine.specs.State.{State}
 use Rattle.written_machine.proofs.Stops.{cycle_by}
 use Rattle.isolation.proofs.Tame.{cycle_number, runs_so_far, settle_same, turn_same, ticked_same}
-use Rattle.board.specs.internal.Sound.{ended_at, RunsTo, LeadsTo, number_of}
+use Rattle.board.specs.internal.Sound.{ended_at, RunsTo, LeadsTo, state_number}
 use Rattle.board.proofs.Runs.{state_split, stays, stopped_state}
 
 -- ---- the number of a cycle
@@ -138,11 +138,11 @@ found_by_number addr number s t r e =
         (is ∙ ap (after_cycles s) z, runs_less number t.cycle s r (omega (arith, n)) (omega (arith, n, within)), omega (arith, n, within))
 
 -- the number of the last tells whether there is one
-pub none_numbered : (o : Option State) → None ≡ number_of o → o ≡ None
+pub none_numbered : (o : Option State) → None ≡ state_number o → o ≡ None
 none_numbered None e = refl
 none_numbered (Some t) e = absurd (cc)
 
-pub some_numbered : (o : Option State) (n : ℕ) → Some n ≡ number_of o → (t : State) × (o ≡ Some t) × (n ≡ t.cycle)
+pub some_numbered : (o : Option State) (n : ℕ) → Some n ≡ state_number o → (t : State) × (o ≡ Some t) × (n ≡ t.cycle)
 some_numbered None n e = absurd (cc)
 some_numbered (Some t) n e = (t, refl, cc)
 
@@ -156,15 +156,15 @@ walk_next number i s t u r is within next =
     (at, ap (λ (x : State). x.cycle) at ∙ (runs_within number i s r (omega (arith, within))).1)
 
 -- the number of the last that stands, one cycle later: this one
-pub last_here : (addr i n : ℕ) (s t : State) (next : Option ℕ) → t ≡ after_cycles s i → n ≡ t.cycle → stands_at addr t ≡ true → next ≡ Some n → next ≡ number_of (last_standing addr s (suc i))
+pub last_here : (addr i n : ℕ) (s t : State) (next : Option ℕ) → t ≡ after_cycles s i → n ≡ t.cycle → stands_at addr t ≡ true → next ≡ Some n → next ≡ state_number (last_standing addr s (suc i))
 last_here addr i n s t next is number here e =
     e ∙ ap Some (number ∙ ap (λ (x : State). x.cycle) is)
-    ∙ sym (ap (λ b. number_of (this_or b (after_cycles s i) (last_standing addr s i))) (ap (stands_at addr) (sym is) ∙ here))
+    ∙ sym (ap (λ b. state_number (this_or b (after_cycles s i) (last_standing addr s i))) (ap (stands_at addr) (sym is) ∙ here))
 
 -- or the one before
-pub last_there : (addr i : ℕ) (s t : State) (last next : Option ℕ) → t ≡ after_cycles s i → stands_at addr t ≡ false → last ≡ number_of (last_standing addr s i) → next ≡ last → next ≡ number_of (last_standing addr s (suc i))
+pub last_there : (addr i : ℕ) (s t : State) (last next : Option ℕ) → t ≡ after_cycles s i → stands_at addr t ≡ false → last ≡ state_number (last_standing addr s i) → next ≡ last → next ≡ state_number (last_standing addr s (suc i))
 last_there addr i s t last next is off was e =
-    e ∙ was ∙ sym (ap (λ b. number_of (this_or b (after_cycles s i) (last_standing addr s i))) (ap (stands_at addr) (sym is) ∙ off))
+    e ∙ was ∙ sym (ap (λ b. state_number (this_or b (after_cycles s i) (last_standing addr s i))) (ap (stands_at addr) (sym is) ∙ off))
 
 -- where a walk arrives
 pub arrived : (number : ℕ) (s : State) → RunsTo number s → (after_cycles s (number - s.cycle)).cycle ≡ number

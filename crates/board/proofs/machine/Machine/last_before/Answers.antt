@@ -3,7 +3,7 @@ use Rattle.std.proofs.lemmas.Bool.{and_right}
 use Rattle.written_machine.specs.Cycle.{after_cycles}
 use Rattle.written_machine.specs.Standing.{stands_at, last_standing}
 use Rattle.written_machine.specs.State.{State}
-use Rattle.board.specs.internal.Sound.{number_of}
+use Rattle.board.specs.internal.Sound.{state_number}
 use Rattle.board.specs.internal.Standing.{state_of}
 use Rattle.board.proofs.Leading.{last_apart, last_here, last_there, walk_next}
 use Rattle.board.proofs.Runs.{state_split}
@@ -31,7 +31,7 @@ loop-self-preserved c =
     let within : n < c.args.end - c.args.self.now.cycle = omega (arith, i.from, c.loop-self-test.true) in
     let walk = walk_next c.args.end n s t u c.requires.runs i.state within c.tick.ensures.state in
     let total : suc n + k ≡ c.pass_idle.new.self.cycle - c.args.self.now.cycle = omega (arith, i.from, walk.1, c.pass_idle.ensures.number) in
-    let exact : c.if-stands_at.last ≡ number_of (last_standing addr s (suc n)) =
+    let exact : c.if-stands_at.last ≡ state_number (last_standing addr s (suc n)) =
     elim c.if-stands_at.branch [
       | then-stands_at w ↦ last_here addr n c.loop-self.self.cycle s t c.if-stands_at.last i.state refl (sym c.stands_at.ensures ∙ w.if-stands_at.true) w.last-is
       | else-stands_at w ↦
@@ -44,11 +44,11 @@ loop-self-preserved c =
       state = c.pass_idle.ensures.leads.state ∙ ap (λ (x : State). after_cycles x k) walk.0 ∙ sym (state_split (suc n) k s) ∙ ap (after_cycles s) total;
       apart = λ off.
           exact
-          ∙ ap number_of (sym (last_apart addr (suc n) k s u walk.0 (c.pass_idle.ensures.missed addr (and_right (stands_at addr u) (stands_at addr (state_of c.pass_idle.new.self)) off))))
-          ∙ ap (λ j. number_of (last_standing addr s j)) total;
+          ∙ ap state_number (sym (last_apart addr (suc n) k s u walk.0 (c.pass_idle.ensures.missed addr (and_right (stands_at addr u) (stands_at addr (state_of c.pass_idle.new.self)) off))))
+          ∙ ap (λ j. state_number (last_standing addr s j)) total;
       ended = λ last.
           let same : suc n ≡ c.pass_idle.new.self.cycle - c.args.self.now.cycle = omega (arith, total, last, walk.1, c.pass_idle.ensures.number, c.pass_idle.ensures.most, c.saturating_sub.ensures) in
-          exact ∙ ap (λ j. number_of (last_standing addr s j)) same;
+          exact ∙ ap (λ j. state_number (last_standing addr s j)) same;
       stands = c.pass_idle.ensures.stands;
       lasting = c.pass_idle.ensures.lasting ∙ c.tick.ensures.lasting ∙ i.lasting;
     }
