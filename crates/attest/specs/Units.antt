@@ -10,8 +10,8 @@ use Rattle.mod_layout.specs.declared.TheConstants.{DEVICES_END}
 use Rattle.mod_layout.specs.declared.Section.{Section}
 use Rattle.mod_layout.specs.declared.Module.{Module}
 use Rattle.mod_layout.specs.declared.Place.{Place}
-use Rattle.mod_layout.specs.declared.Place.TheVariants.{Open, Entry, Text, Data}
-use Rattle.mod_layout.specs.Table.{Table, place_of, module_of, size_of, takes, with_module}
+use Rattle.mod_layout.specs.declared.Place.TheVariants.{Entry, Text}
+use Rattle.mod_layout.specs.Table.{Table, place_id, place_of, module_of, size_of, takes, with_module}
 use Rattle.mod_keys.specs.Keys.{identity, tag_of}
 use Rattle.mod_keys.specs.declared.keys.TheConstants.{IDENTITY_TAIL}
 use Rattle.mod_keys.specs.declared.mac.TheConstants.{TAG_LENGTH}
@@ -107,12 +107,6 @@ answer core v cycles = record { core = put (next core) 15 v; stored = []; cycles
 abbrev pub unprotected : Option Module → List ℕ → Effect
 unprotected None core = answer core 0 SHORT_CYCLES
 unprotected (Some own) core = record { core = next core; stored = []; cycles = SHORT_CYCLES + size_of own.ram / 2; closing = true }
-
-abbrev pub place_id : Place → ℕ
-place_id Open = 0
-place_id (Entry id) = id
-place_id (Text id) = id
-place_id (Data id) = id
 
 -- whether the first values are the tag of the other's identity; its text and the own text follow
 abbrev pub genuine : List ℕ → Module → Module → List ℕ → Bool

@@ -6,7 +6,7 @@ ghost use Rattle.sm_words.specs.Words.{put};
 ghost use Rattle.mod_layout.specs.Table.{place_of};
 ghost use Rattle.mod_layout.specs.Tables.{IsModule, IsTable};
 ghost use Rattle.pc_access.specs.Rights.{first_denied};
-ghost use Rattle.attest.specs.Units.{Attest, CallerId, IdOf, OwnId, Protect, Tag, Unprotect, blocks, in_range, new_ram, new_text, place_id, text_at, unit_plan};
+ghost use Rattle.attest.specs.Units.{Attest, CallerId, IdOf, OwnId, Protect, Tag, Unprotect, blocks, in_range, new_ram, new_text, text_at, unit_plan};
 ghost use Rattle.attest.specs.Done.{IsDone, doer};
 ghost use Rattle.mem_map.specs.Contents.{SameMarks};
 
@@ -227,7 +227,7 @@ fn id_of(core: &mut Core, table: &ModuleTable, who: Who) -> UnitDone
     ensures { (key mem : List ℕ) → IsDone (doer table.now who key) IdOf core.old mem core.new mem table.now result }
 {
     let place = table.at(core.get(12));
-    answer(core, place_id(place), SHORT_CYCLES)
+    answer(core, place.id(), SHORT_CYCLES)
 }
 
 /// R15 is the active module's id, else 0.
@@ -246,15 +246,6 @@ fn caller_id(core: &mut Core, table: &ModuleTable, who: Who) -> UnitDone
 {
     let own = table.own(who.active);
     answer(core, caller_or_zero(own, who.caller), SHORT_CYCLES)
-}
-
-fn place_id(place: Place) -> u16
-    ensures { result ≡ place_id place }
-{
-    match place {
-        Place::Open => 0,
-        Place::Entry(id) | Place::Text(id) | Place::Data(id) => id,
-    }
 }
 
 fn id_or_zero(own: Option<Module>) -> u16

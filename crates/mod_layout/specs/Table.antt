@@ -42,6 +42,13 @@ place_in (m ∷ ms) a =
 unfoldable pub place_of : Table → ℕ → Place
 place_of t a = place_in t.modules a
 
+-- the id of the module that a place is of, else 0
+abbrev pub place_id : Place → ℕ
+place_id Open = 0
+place_id (Entry id) = id
+place_id (Text id) = id
+place_id (Data id) = id
+
 -- ---- look-ups by id
 
 -- the module with this id

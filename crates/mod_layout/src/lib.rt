@@ -4,7 +4,7 @@
 mod table;
 
 ghost use Rattle.std.specs.Prelude.{◌≡◌, ℕ, ◌+◌, ◌%◌, ◌≤◌};
-ghost use Rattle.mod_layout.specs.Table.{holds, is_entry, size_of, shares, meets, is_empty, is_odd, is_reserved, Table, place_of};
+ghost use Rattle.mod_layout.specs.Table.{holds, is_entry, size_of, shares, meets, is_empty, is_odd, is_reserved, Table, place_id, place_of};
 ghost use Rattle.mod_layout.specs.Tables.{IsTable};
 
 pub use table::ModuleTable;
@@ -112,6 +112,18 @@ pub enum Place {
     Text(u16),
     /// In a module's data.
     Data(u16),
+}
+
+impl Place {
+    /// The id of the module that it is of, else 0.
+    pub fn id(self) -> u16
+        ensures { result ≡ place_id self }
+    {
+        match self {
+            Place::Open => 0,
+            Place::Entry(id) | Place::Text(id) | Place::Data(id) => id,
+        }
+    }
 }
 
 /// Why a table refuses a module.
