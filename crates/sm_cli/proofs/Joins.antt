@@ -23,7 +23,7 @@ use Rattle.peer_rows.specs.Laws.{DifferInData, AcceptedArePeers}
 use Rattle.cli_files.specs.Files.{Held, an_image, a_schedule, a_layout, an_object, layout_file, object_file, image_file, need, object_needs, schedule_needs, Holds, HoldAll, IsScheduleOf}
 use Rattle.cli_calls.specs.Command.{Answer, Answers, IsAnswer, done, run_status, runs, trace_answer}
 use Rattle.sm_cli.specs.ImageCommand.{image_command}
-use Rattle.sm_cli.specs.Joins.{AreFiles, IsLinked, SaysYes, RunsAlike}
+use Rattle.sm_cli.specs.Joins.{AreFiles, IsLinkedText, SaysYes, RunsAlike}
 use Rattle.sm_cli.specs.LinkCommand.{link_command, linked_image_text, text_answer}
 use Rattle.cli_calls.specs.Linking.{linked_by, objects_outcome, text_linked}
 use Rattle.sm_cli.specs.RunCommand.{run_command}
@@ -87,7 +87,7 @@ module _ (files : FileMap) (layout_name : List ℕ) (names : List (List ℕ)) wh
         All-cons (λ (x : ObjectValue). AreBytes x.file) o os (subst AreBytes (sym h.0.is.1) (are name h.0.bytes h.0.file)) more.1,
       )
 
-  pub link_writes : LinkedIsImage → AreFiles files → (written : Answer) → IsAnswer (Some files) (link_command layout_name names) written → IsLinked files layout_name names written
+  pub link_writes : LinkedIsImage → AreFiles files → (written : Answer) → IsAnswer (Some files) (link_command layout_name names) written → IsLinkedText files layout_name names written
   link_writes law are written a =
       let r = read_of written a in
       let objects = objects_sound are names r.objects r.objects_are in
@@ -119,7 +119,7 @@ module _ (files : FileMap) (layout_name : List ℕ) (names : List (List ℕ)) wh
   told_as : List ℕ → Bool → Answer
   told_as text stopped = record { text = text; status = run_status stopped }
 
-  pub runs_alike : SameTraces → SameViews → (written : Answer) (linked : IsLinked files layout_name names written) (other : Image) (id : ℕ) → Peers linked.value other id → IsImage other → RunsAlike files layout_name names other
+  pub runs_alike : SameTraces → SameViews → (written : Answer) (linked : IsLinkedText files layout_name names written) (other : Image) (id : ℕ) → Peers linked.value other id → IsImage other → RunsAlike files layout_name names other
   unfolding told_as view_of
   runs_alike traces views written linked other id peers image name schedule cycles ran shown file r s =
       let helds = s.comes.helds in

@@ -16,23 +16,23 @@ use Rattle.cli_calls.specs.Ids.{id_of}
 use Rattle.cli_calls.specs.Values.{cycles_of, file_named}
 use Rattle.cli_calls.specs.Command.{Command, Outcome, runs, nothing, Comes}
 use Rattle.sm_cli.specs.CommandLine.{command_by, command_of}
-use Rattle.sm_cli.specs.AsmCommand.{asm_command, asm_of}
-use Rattle.sm_cli.specs.BalanceCommand.{balanced_by, balance_command, balance_in, balance_of}
-use Rattle.sm_cli.specs.ChallengeCommand.{challenge_command, challenge_of}
-use Rattle.sm_cli.specs.CheckCommand.{check_command, check_of}
-use Rattle.sm_cli.specs.DisCommand.{dis_command, range_command, dis_of}
-use Rattle.sm_cli.specs.ImageCommand.{image_of}
-use Rattle.sm_cli.specs.KeyCommand.{keys_by, key_command, key_of}
+use Rattle.sm_cli.specs.AsmCommand.{asm_command, read_asm}
+use Rattle.sm_cli.specs.BalanceCommand.{balanced_by, balance_command, balance_in, read_balance}
+use Rattle.sm_cli.specs.ChallengeCommand.{challenge_command, read_challenge}
+use Rattle.sm_cli.specs.CheckCommand.{check_command, read_check}
+use Rattle.sm_cli.specs.DisCommand.{dis_command, range_command, read_dis}
+use Rattle.sm_cli.specs.ImageCommand.{read_image}
+use Rattle.sm_cli.specs.KeyCommand.{keys_by, key_command, read_key}
 use Rattle.cli_calls.specs.Linking.{objects_in}
 use Rattle.cli_calls.proofs.Sound.{Sound, some_linked, of_image_run, of_objects, IfSound, IsSomething, if_none, if_some, if_map, if_then, if_else}
-use Rattle.sm_cli.specs.LinkCommand.{link_of, linked_image_text}
-use Rattle.sm_cli.specs.LoneCommand.{lone_by, lone_command, lone_with, lone_of}
-use Rattle.sm_cli.specs.MakeCommand.{make_command, make_of, seed_of}
-use Rattle.sm_cli.specs.MonitorCommand.{monitor_command, monitor_of}
+use Rattle.sm_cli.specs.LinkCommand.{read_link, linked_image_text}
+use Rattle.sm_cli.specs.LoneCommand.{lone_by, lone_command, lone_with, read_lone}
+use Rattle.sm_cli.specs.MakeCommand.{make_command, read_make, seed_of}
+use Rattle.sm_cli.specs.MonitorCommand.{monitor_command, read_monitor}
 use Rattle.sm_cli.specs.declared.pairs.Pair.{Pair}
 use Rattle.sm_cli.specs.Pairs.{core_with, pairs_in}
-use Rattle.sm_cli.specs.RunCommand.{run_command, run_of}
-use Rattle.sm_cli.specs.VendorCommand.{report_by, vendor_command, vendor_of}
+use Rattle.sm_cli.specs.RunCommand.{run_command, read_run}
+use Rattle.sm_cli.specs.VendorCommand.{report_by, vendor_command, read_vendor}
 
 -- ---- the commands
 
@@ -142,35 +142,35 @@ sound_make seed map helds h e = cc
 
 -- ---- the command of words
 
-of_key : (vs : List Text) → IfSound (key_of vs)
+of_key : (vs : List Text) → IfSound (read_key vs)
 of_key (name ∷ id ∷ []) = if_map (key_command name) (id_of id) (sound_key name)
 of_key _ = if_none
 
-of_dis : (vs : List Text) → IfSound (dis_of vs)
+of_dis : (vs : List Text) → IfSound (read_dis vs)
 of_dis (name ∷ start ∷ end ∷ []) =
     if_then (λ s. option_and_then (λ e. range_command name s e) (read_hex_word end)) (read_hex_word start)
     (λ s. if_then (λ e. range_command name s e) (read_hex_word end) (λ e. if_else ((s % 2 == 0) && nat_le s e) (Some (dis_command name s e)) None (if_some (dis_command name s e) (sound_dis name s e)) if_none))
 of_dis _ = if_none
 
-of_challenge : (vs : List Text) → IfSound (challenge_of vs)
+of_challenge : (vs : List Text) → IfSound (read_challenge vs)
 of_challenge (name ∷ []) = if_some (challenge_command name) (sound_challenge name)
 of_challenge _ = if_none
 
-of_vendor : (vs : List Text) → IfSound (vendor_of vs)
+of_vendor : (vs : List Text) → IfSound (read_vendor vs)
 of_vendor (image ∷ id ∷ provider ∷ challenges ∷ trace ∷ []) =
     if_then (λ n. option_map (λ key. vendor_command image challenges trace n key) (read_hex_key provider)) (id_of id)
     (λ n. if_map (λ key. vendor_command image challenges trace n key) (read_hex_key provider) (sound_vendor image challenges trace n))
 of_vendor _ = if_none
 
-of_check : (vs : List Text) → IfSound (check_of vs)
+of_check : (vs : List Text) → IfSound (read_check vs)
 of_check (name ∷ id ∷ []) = if_map (check_command name) (id_of id) (sound_check name)
 of_check _ = if_none
 
-of_balance : (vs : List Text) → IfSound (balance_of vs)
+of_balance : (vs : List Text) → IfSound (read_balance vs)
 of_balance (name ∷ id ∷ arms ∷ []) = if_map (balance_in name arms) (id_of id) (λ n. sound_balance name n arms)
 of_balance _ = if_none
 
-of_run : (vs : List Text) → IfSound (run_of vs)
+of_run : (vs : List Text) → IfSound (read_run vs)
 of_run (layout ∷ schedule ∷ cycles ∷ objects) =
     if_map (λ n. run_command layout (file_named schedule) n objects) (cycles_of cycles) (λ n. sound_run layout (file_named schedule) n objects)
 of_run _ = if_none
@@ -179,37 +179,37 @@ with_lone : (name : Text) (id limit : Option ℕ) (pairs : Option (List Pair)) �
 with_lone name (Some id) (Some limit) (Some pairs) = if_some (lone_command name id limit (core_with pairs)) (sound_lone name id limit (core_with pairs))
 with_lone name _ _ _ = if_none
 
-of_lone : (vs : List Text) → IfSound (lone_of vs)
+of_lone : (vs : List Text) → IfSound (read_lone vs)
 of_lone (name ∷ id ∷ limit ∷ pairs) = with_lone name (id_of id) (cycles_of limit) (pairs_in pairs)
 of_lone _ = if_none
 
-of_monitor : (vs : List Text) → IfSound (monitor_of vs)
+of_monitor : (vs : List Text) → IfSound (read_monitor vs)
 of_monitor (name ∷ schedule ∷ script ∷ []) = if_some (monitor_command name (file_named schedule) script) (sound_monitor name (file_named schedule) script)
 of_monitor _ = if_none
 
-of_asm : (vs : List Text) → IfSound (asm_of vs)
+of_asm : (vs : List Text) → IfSound (read_asm vs)
 of_asm (name ∷ []) = if_some (asm_command name) (sound_asm name)
 of_asm _ = if_none
 
-of_make : (vs : List Text) → IfSound (make_of vs)
+of_make : (vs : List Text) → IfSound (read_make vs)
 of_make (seed ∷ []) = if_map make_command (seed_of seed) sound_make
 of_make _ = if_none
 
 of_name : (name : Text) (words : List Text) → IfSound (command_by name words)
 of_name name words =
-    if_else (bytes_eq name (codes "image")) _ _ (if_then image_of (values_in 3 3 words) (of_image_run runs some_run)) (
-    if_else (bytes_eq name (codes "key")) _ _ (if_then key_of (values_in 2 2 words) of_key) (
-    if_else (bytes_eq name (codes "dis")) _ _ (if_then dis_of (values_in 3 3 words) of_dis) (
-    if_else (bytes_eq name (codes "challenge")) _ _ (if_then challenge_of (values_in 1 1 words) of_challenge) (
-    if_else (bytes_eq name (codes "vendor")) _ _ (if_then vendor_of (values_in 5 5 words) of_vendor) (
-    if_else (bytes_eq name (codes "check")) _ _ (if_then check_of (values_in 2 2 words) of_check) (
-    if_else (bytes_eq name (codes "balance")) _ _ (if_then balance_of (values_in 3 3 words) of_balance) (
-    if_else (bytes_eq name (codes "link")) _ _ (if_then link_of (values_in 2 65 words) (of_objects linked_image_text)) (
-    if_else (bytes_eq name (codes "run")) _ _ (if_then run_of (values_in 4 67 words) of_run) (
-    if_else (bytes_eq name (codes "lone")) _ _ (if_then lone_of (values_in 3 17 words) of_lone) (
-    if_else (bytes_eq name (codes "monitor")) _ _ (if_then monitor_of (values_in 3 3 words) of_monitor) (
-    if_else (bytes_eq name (codes "asm")) _ _ (if_then asm_of (values_in 1 1 words) of_asm) (
-    if_else (bytes_eq name (codes "make")) _ _ (if_then make_of (values_in 1 1 words) of_make) (
+    if_else (bytes_eq name (codes "image")) _ _ (if_then read_image (values_in 3 3 words) (of_image_run runs some_run)) (
+    if_else (bytes_eq name (codes "key")) _ _ (if_then read_key (values_in 2 2 words) of_key) (
+    if_else (bytes_eq name (codes "dis")) _ _ (if_then read_dis (values_in 3 3 words) of_dis) (
+    if_else (bytes_eq name (codes "challenge")) _ _ (if_then read_challenge (values_in 1 1 words) of_challenge) (
+    if_else (bytes_eq name (codes "vendor")) _ _ (if_then read_vendor (values_in 5 5 words) of_vendor) (
+    if_else (bytes_eq name (codes "check")) _ _ (if_then read_check (values_in 2 2 words) of_check) (
+    if_else (bytes_eq name (codes "balance")) _ _ (if_then read_balance (values_in 3 3 words) of_balance) (
+    if_else (bytes_eq name (codes "link")) _ _ (if_then read_link (values_in 2 65 words) (of_objects linked_image_text)) (
+    if_else (bytes_eq name (codes "run")) _ _ (if_then read_run (values_in 4 67 words) of_run) (
+    if_else (bytes_eq name (codes "lone")) _ _ (if_then read_lone (values_in 3 17 words) of_lone) (
+    if_else (bytes_eq name (codes "monitor")) _ _ (if_then read_monitor (values_in 3 3 words) of_monitor) (
+    if_else (bytes_eq name (codes "asm")) _ _ (if_then read_asm (values_in 1 1 words) of_asm) (
+    if_else (bytes_eq name (codes "make")) _ _ (if_then read_make (values_in 1 1 words) of_make) (
     if_none)))))))))))))
 
 -- what comes of the files of a command line is something

@@ -12,6 +12,6 @@ asm_outcome _ = nothing
 abbrev pub asm_command : Text → Command
 asm_command name = record { needs = need name source_file ∷ []; outcome = asm_outcome }
 
-abbrev pub asm_of : List Text → Option Command
-asm_of (name ∷ []) = Some (asm_command name)
-asm_of _ = None
+abbrev pub read_asm : List Text → Option Command
+read_asm (name ∷ []) = Some (asm_command name)
+read_asm _ = None

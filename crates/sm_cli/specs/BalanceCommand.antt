@@ -26,6 +26,6 @@ balance_command name id arms = record { needs = need name (image_with id) ∷ ne
 abbrev pub balance_in : Text → Text → ℕ → Command
 balance_in name arms id = balance_command name id arms
 
-abbrev pub balance_of : List Text → Option Command
-balance_of (name ∷ id ∷ arms ∷ []) = option_map (balance_in name arms) (id_of id)
-balance_of _ = None
+abbrev pub read_balance : List Text → Option Command
+read_balance (name ∷ id ∷ arms ∷ []) = option_map (balance_in name arms) (id_of id)
+read_balance _ = None

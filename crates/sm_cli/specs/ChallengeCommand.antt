@@ -12,6 +12,6 @@ challenge_outcome _ = nothing
 abbrev pub challenge_command : Text → Command
 challenge_command name = record { needs = need name challenges_file ∷ []; outcome = challenge_outcome }
 
-abbrev pub challenge_of : List Text → Option Command
-challenge_of (name ∷ []) = Some (challenge_command name)
-challenge_of _ = None
+abbrev pub read_challenge : List Text → Option Command
+read_challenge (name ∷ []) = Some (challenge_command name)
+read_challenge _ = None

@@ -15,6 +15,6 @@ check_outcome id _ = nothing
 abbrev pub check_command : Text → ℕ → Command
 check_command name id = record { needs = need name (image_with id) ∷ []; outcome = check_outcome id }
 
-abbrev pub check_of : List Text → Option Command
-check_of (name ∷ id ∷ []) = option_map (check_command name) (id_of id)
-check_of _ = None
+abbrev pub read_check : List Text → Option Command
+read_check (name ∷ id ∷ []) = option_map (check_command name) (id_of id)
+read_check _ = None

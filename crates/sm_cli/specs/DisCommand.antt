@@ -18,15 +18,15 @@ dis_insn memory at =
     else None
 
 -- a word and a space
-abbrev pub word_text : List ℕ → ℕ → List ℕ
-word_text memory at = hex_word (word_at (slice_index memory) at) ++ codes " "
+abbrev pub memory_word_text : List ℕ → ℕ → List ℕ
+memory_word_text memory at = hex_word (word_at (slice_index memory) at) ++ codes " "
 
 -- one to three words
-abbrev pub words_text : List ℕ → ℕ → ℕ → List ℕ
-words_text memory at count =
-    word_text memory at
-    ++ (if nat_lt 1 count then word_text memory (at + 2) else [])
-    ++ (if nat_lt 2 count then word_text memory (at + 4) else [])
+abbrev pub memory_words_text : List ℕ → ℕ → ℕ → List ℕ
+memory_words_text memory at count =
+    memory_word_text memory at
+    ++ (if nat_lt 1 count then memory_word_text memory (at + 2) else [])
+    ++ (if nat_lt 2 count then memory_word_text memory (at + 4) else [])
 
 -- an instruction's text, or that of a word that is none
 abbrev pub dis_text : Option Insn → ℕ → List ℕ
@@ -36,7 +36,8 @@ dis_text insn at = option_map_or (λ i. insn_text i at) insn (codes "?")
 unfoldable pub line_at : List ℕ → ℕ → List ℕ
 line_at memory at =
     let insn = dis_insn memory at in
-    (((hex_word at ++ codes ": ") ++ words_text memory at (length_or_one insn)) ++ dis_text insn at) ++ codes "\n"
+    (((hex_word at ++ codes ": ") ++ memory_words_text memory at (length_or_one insn)) ++ dis_text insn at)
+    ++ codes "\n"
 
 -- the lines from an address on while it is below the end, no more than this many
 unfoldable pub lines_below : ℕ → List ℕ → ℕ → ℕ → List ℕ
@@ -58,6 +59,6 @@ dis_command name start end = record { needs = need name image_file ∷ []; outco
 abbrev pub range_command : Text → ℕ → ℕ → Option Command
 range_command name start end = if (start % 2 == 0) && nat_le start end then Some (dis_command name start end) else None
 
-abbrev pub dis_of : List Text → Option Command
-dis_of (name ∷ start ∷ end ∷ []) = option_and_then (λ s. option_and_then (λ e. range_command name s e) (read_hex_word end)) (read_hex_word start)
-dis_of _ = None
+abbrev pub read_dis : List Text → Option Command
+read_dis (name ∷ start ∷ end ∷ []) = option_and_then (λ s. option_and_then (λ e. range_command name s e) (read_hex_word end)) (read_hex_word start)
+read_dis _ = None

@@ -7,5 +7,5 @@ use Rattle.cli_calls.specs.Words.{Text}
 abbrev pub image_command : Text → Option Text → ℕ → Command
 image_command name schedule cycles = image_run_command runs name schedule cycles
 
-abbrev pub image_of : List Text → Option Command
-image_of values = read_image_run runs values
+abbrev pub read_image : List Text → Option Command
+read_image values = read_image_run runs values

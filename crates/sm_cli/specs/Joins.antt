@@ -33,7 +33,7 @@ AreFiles files = (name bytes : List ℕ) → files name ≡ Some bytes → AreBy
 -- ---- objects, their image, and its check
 
 -- what `link` wrote is the text of this image, and `run` of the same files tells its trace, on every schedule
-pub record IsLinked (files : FileMap) (layout : Text) (objects : List Text) (written : Answer) : Type 0 where
+pub record IsLinkedText (files : FileMap) (layout : Text) (objects : List Text) (written : Answer) : Type 0 where
   pub value : Image
   pub image : IsImage value
   pub text : written ≡ text_answer value
@@ -43,15 +43,15 @@ pub record IsLinked (files : FileMap) (layout : Text) (objects : List Text) (wri
 -- What `link` writes of files is the text of an image, which `run` of them runs.
 abbrev pub LinkWritesImages : Type 0
 LinkWritesImages = (files : FileMap) (layout : Text) (objects : List Text) (written : Answer) → AreFiles files →
-    IsAnswer (Some files) (link_command layout objects) written → IsLinked files layout objects written
+    IsAnswer (Some files) (link_command layout objects) written → IsLinkedText files layout objects written
 
 -- the command is answered Done
-abbrev pub IsDone : FileMap → Command → Type 0
-IsDone files command = (answer : Answer) × IsAnswer (Some files) command answer × (answer.status ≡ Done)
+abbrev pub EndsDone : FileMap → Command → Type 0
+EndsDone files command = (answer : Answer) × IsAnswer (Some files) command answer × (answer.status ≡ Done)
 
 -- `check` says yes of a module of an image, or `balance` does by some file of certificates
 abbrev pub SaysYes : FileMap → Text → ℕ → Type 0
-SaysYes files name id = IsDone files (check_command name id) ⊎ ((arms : Text) × IsDone files (balance_command name id arms))
+SaysYes files name id = EndsDone files (check_command name id) ⊎ ((arms : Text) × EndsDone files (balance_command name id arms))
 
 -- `run` of objects and `image` of a file that is this image's text have one answer
 abbrev pub RunsAlike : FileMap → Text → List Text → Image → Type 0

@@ -13,11 +13,11 @@ use Rattle.cli_files.specs.Files.{Held, an_image, image_with, need}
 use Rattle.cli_calls.specs.Command.{Outcome, done, nothing, Command}
 
 -- the line of a key
-abbrev pub key_line : List ℕ → List ℕ → List ℕ
-key_line name key = name ++ (hex_key key ++ codes "\n")
+abbrev pub named_key_line : List ℕ → List ℕ → List ℕ
+named_key_line name key = name ++ (hex_key key ++ codes "\n")
 
 abbrev pub two_lines : List ℕ → List ℕ → List ℕ
-two_lines provider key = key_line (codes "provider ") provider ++ key_line (codes "module ") key
+two_lines provider key = named_key_line (codes "provider ") provider ++ named_key_line (codes "module ") key
 
 abbrev pub key_lines : Image → Module → List ℕ
 key_lines value m = two_lines (provider_key value.node_key m.vendor) (module_key value.node_key m (section m.text value.memory))
@@ -32,6 +32,6 @@ key_outcome id _ = nothing
 abbrev pub key_command : Text → ℕ → Command
 key_command name id = record { needs = need name (image_with id) ∷ []; outcome = key_outcome id }
 
-abbrev pub key_of : List Text → Option Command
-key_of (name ∷ id ∷ []) = option_map (key_command name) (id_of id)
-key_of _ = None
+abbrev pub read_key : List Text → Option Command
+read_key (name ∷ id ∷ []) = option_map (key_command name) (id_of id)
+read_key _ = None

@@ -19,7 +19,7 @@ use Rattle.cli_files.specs.Refusal.{refusal_line}
 use Rattle.cli_calls.specs.Command.{Command, Outcome, refuses, Comes, Answer, IsAnswer, trace_answer}
 use Rattle.link_symbols.specs.declared.fault.LinkFault.{LinkFault}
 use Rattle.sm_cli.specs.CommandLine.{command_of}
-use Rattle.sm_cli.specs.MakeCommand.{run_text, start_of}
+use Rattle.sm_cli.specs.MakeCommand.{run_text, run_start}
 use Rattle.cli_calls.specs.Calls.{Call, Serves, IsCalledFor, Refuses}
 use Rattle.cli_calls.specs.Words.{Text}
 
@@ -65,4 +65,4 @@ RunsStop = (value : Image) (entries : List Entry) (cycles : ℕ) → ((trace_ans
 
 -- The runs of a seed are told alike, however long they are and whatever the words of their module's data.
 abbrev pub RunsAreAlike : Type 0
-RunsAreAlike = (seed cycles v w : ℕ) → v < 65536 → w < 65536 → run_text (start_of seed v) cycles ≡ run_text (start_of seed w) cycles
+RunsAreAlike = (seed cycles v w : ℕ) → v < 65536 → w < 65536 → run_text (run_start seed v) cycles ≡ run_text (run_start seed w) cycles

@@ -19,5 +19,5 @@ linked_image_text layout objects = image_text (linked_image layout objects)
 abbrev pub link_command : Text → List Text → Command
 link_command layout objects = objects_command linked_image_text layout objects
 
-abbrev pub link_of : List Text → Option Command
-link_of values = read_objects linked_image_text values
+abbrev pub read_link : List Text → Option Command
+read_link values = read_objects linked_image_text values

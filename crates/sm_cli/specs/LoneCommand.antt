@@ -28,31 +28,31 @@ abbrev pub no_caller : ℕ
 no_caller = 0
 
 -- the module's entry: PC is where its text starts, the other registers are these, and no module calls
-abbrev pub entry_of : Module → List ℕ → lone.Entrance
-entry_of owner registers = record { core = put registers PC owner.text.start; caller = no_caller }
+abbrev pub entrance_of : Module → List ℕ → lone.Entrance
+entrance_of owner registers = record { core = put registers PC owner.text.start; caller = no_caller }
 
 -- how the call of an image's module ends within so many cycles
-abbrev pub end_of : Image → Module → List ℕ → ℕ → lone.Outcome
-end_of value owner registers limit =
-    lone.outcome (lone.job_of value.node_key owner (section owner.text value.memory) no_caller) limit (lone.starts (entry_of owner registers) (section owner.ram value.memory))
+abbrev pub lone_end : Image → Module → List ℕ → ℕ → lone.Outcome
+lone_end value owner registers limit =
+    lone.outcome (lone.job_of value.node_key owner (section owner.text value.memory) no_caller) limit (lone.starts (entrance_of owner registers) (section owner.ram value.memory))
 
 -- a word, a number of cycles and the sixteen registers
 abbrev pub core_line : List ℕ → ℕ → List ℕ → List ℕ
 core_line name cycles core = name ++ (decimal cycles ++ (registers_from core 0 16 ++ codes "\n"))
 
 -- the line of how a call ends
-abbrev pub end_line : ℕ → End → List ℕ
-end_line limit (Exit core cycles) = core_line (codes "exit ") cycles core
-end_line limit (Closed core cycles) = core_line (codes "closed ") cycles core
-end_line limit (Broken cycles) = number_line (codes "broken ") cycles
-end_line limit Running = number_line (codes "running ") limit
+abbrev pub lone_end_line : ℕ → End → List ℕ
+lone_end_line limit (Exit core cycles) = core_line (codes "exit ") cycles core
+lone_end_line limit (Closed core cycles) = core_line (codes "closed ") cycles core
+lone_end_line limit (Broken cycles) = number_line (codes "broken ") cycles
+lone_end_line limit Running = number_line (codes "running ") limit
 
 abbrev pub end_answer : ℕ → End → Answer
-end_answer limit end = record { text = end_line limit end; status = status.Done }
+end_answer limit end = record { text = lone_end_line limit end; status = status.Done }
 
 abbrev pub lone_by : Image → List ℕ → ℕ → Option Module → Outcome
 lone_by value registers limit owner =
-    option_map_or (λ m. gives (end_answer limit (call_answer (end_of value m registers limit)))) owner nothing
+    option_map_or (λ m. gives (end_answer limit (call_answer (lone_end value m registers limit)))) owner nothing
 
 abbrev pub lone_outcome : ℕ → ℕ → List ℕ → List Held → Outcome
 lone_outcome id limit registers (an_image value ∷ []) = lone_by value registers limit (module_of id value.table)
@@ -65,6 +65,6 @@ abbrev pub lone_with : Text → Option ℕ → Option ℕ → Option (List Pair)
 lone_with name (Some id) (Some limit) (Some pairs) = Some (lone_command name id limit (core_with pairs))
 lone_with name _ _ _ = None
 
-abbrev pub lone_of : List Text → Option Command
-lone_of (name ∷ id ∷ limit ∷ pairs) = lone_with name (id_of id) (cycles_of limit) (pairs_in pairs)
-lone_of _ = None
+abbrev pub read_lone : List Text → Option Command
+read_lone (name ∷ id ∷ limit ∷ pairs) = lone_with name (id_of id) (cycles_of limit) (pairs_in pairs)
+read_lone _ = None

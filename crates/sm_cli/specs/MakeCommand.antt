@@ -33,8 +33,8 @@ abbrev pub runs_text : ℕ → ℕ → State → State → List ℕ
 runs_text seed cycles first second = number_line (codes "seed ") seed ++ (run_text first cycles ++ run_text second cycles)
 
 -- where the run of a seed begins whose module has this word as its data
-unfoldable pub start_of : ℕ → ℕ → State
-start_of seed word = boot (image word) (pulses seed COUNT)
+unfoldable pub run_start : ℕ → ℕ → State
+run_start seed word = boot (image word) (pulses seed COUNT)
 
 -- the first run's data
 abbrev pub first_data : ℕ
@@ -45,11 +45,11 @@ abbrev pub second_data : ℕ → ℕ
 second_data seed = next_number seed % 65536
 
 unfoldable pub make_text : ℕ → List ℕ
-make_text seed = runs_text seed CYCLES (start_of seed first_data) (start_of seed (second_data seed))
+make_text seed = runs_text seed CYCLES (run_start seed first_data) (run_start seed (second_data seed))
 
 abbrev pub make_command : ℕ → Command
 make_command seed = record { needs = []; outcome = λ helds. done (make_text seed) }
 
-abbrev pub make_of : List Text → Option Command
-make_of (seed ∷ []) = option_map make_command (seed_of seed)
-make_of _ = None
+abbrev pub read_make : List Text → Option Command
+read_make (seed ∷ []) = option_map make_command (seed_of seed)
+read_make _ = None

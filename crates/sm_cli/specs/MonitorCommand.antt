@@ -17,11 +17,11 @@ abbrev pub play_answer : Marked → List ScriptLine → Answer
 play_answer g script = record { text = play g script; status = run_status (is_some (led g (moves g script)).present.stop) }
 
 -- the machine of an image before its first cycle, with no mark yet
-abbrev pub start_of : Image → List Entry → Marked
-start_of value entries = unmarked MOST_MARKS (boot value entries)
+abbrev pub script_start : Image → List Entry → Marked
+script_start value entries = unmarked MOST_MARKS (boot value entries)
 
 abbrev pub script_answer : Image → List Entry → List ScriptLine → Answer
-script_answer value entries script = play_answer (start_of value entries) script
+script_answer value entries script = play_answer (script_start value entries) script
 
 -- with a schedule's file, or with none
 abbrev pub monitor_outcome : List Held → Outcome
@@ -32,6 +32,6 @@ monitor_outcome _ = nothing
 abbrev pub monitor_command : Text → Option Text → Text → Command
 monitor_command name schedule script = record { needs = need name image_file ∷ (schedule_needs schedule ++ need script script_file ∷ []); outcome = monitor_outcome }
 
-abbrev pub monitor_of : List Text → Option Command
-monitor_of (name ∷ schedule ∷ script ∷ []) = Some (monitor_command name (file_named schedule) script)
-monitor_of _ = None
+abbrev pub read_monitor : List Text → Option Command
+read_monitor (name ∷ schedule ∷ script ∷ []) = Some (monitor_command name (file_named schedule) script)
+read_monitor _ = None

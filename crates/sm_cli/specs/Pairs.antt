@@ -26,8 +26,8 @@ pair_by _ _ = None
 abbrev pub pair_at : ℕ → Text → Option Pair
 pair_at place word = if slice_index word place == EQUALS then pair_by (register_named (take place word)) (read_hex_word (drop (place + 1) word)) else None
 
-abbrev pub pair_of : Text → Option Pair
-pair_of word = if nat_le VALUE_LENGTH (length word) then pair_at (length word - VALUE_LENGTH) word else None
+abbrev pub read_pair : Text → Option Pair
+read_pair word = if nat_le VALUE_LENGTH (length word) then pair_at (length word - VALUE_LENGTH) word else None
 
 abbrev pub with_pair : Option Pair → Option (List Pair) → Option (List Pair)
 with_pair (Some pair) (Some more) = Some (pair ∷ more)
@@ -36,16 +36,16 @@ with_pair _ _ = None
 -- each word is a pair
 abbrev pub pairs_of : List Text → Option (List Pair)
 pairs_of [] = Some []
-pairs_of (word ∷ words) = with_pair (pair_of word) (pairs_of words)
+pairs_of (word ∷ words) = with_pair (read_pair word) (pairs_of words)
 
 -- one of the pairs names this register
-abbrev pub is_named : ℕ → List Pair → Bool
-is_named number pairs = list_any (λ pair. pair.number == number) pairs
+abbrev pub names_register : ℕ → List Pair → Bool
+names_register number pairs = list_any (λ pair. pair.number == number) pairs
 
 -- no register is named twice
 abbrev pub are_different : List Pair → Bool
 are_different [] = true
-are_different (pair ∷ pairs) = not (is_named pair.number pairs) && are_different pairs
+are_different (pair ∷ pairs) = not (names_register pair.number pairs) && are_different pairs
 
 abbrev pub if_different : List Pair → Option (List Pair)
 if_different pairs = if are_different pairs then Some pairs else None

@@ -16,6 +16,6 @@ run_outcome _ cycles _ = nothing
 abbrev pub run_command : Text → Option Text → ℕ → List Text → Command
 run_command layout schedule cycles objects = record { needs = need layout layout_file ∷ (schedule_needs schedule ++ object_needs objects); outcome = run_outcome schedule cycles }
 
-abbrev pub run_of : List Text → Option Command
-run_of (layout ∷ schedule ∷ cycles ∷ objects) = option_map (λ n. run_command layout (file_named schedule) n objects) (cycles_of cycles)
-run_of _ = None
+abbrev pub read_run : List Text → Option Command
+read_run (layout ∷ schedule ∷ cycles ∷ objects) = option_map (λ n. run_command layout (file_named schedule) n objects) (cycles_of cycles)
+read_run _ = None

@@ -44,7 +44,7 @@ exchange_needs challenges trace = need challenges challenges_file ∷ need trace
 abbrev pub vendor_command : Text → Text → Text → ℕ → List ℕ → Command
 vendor_command image challenges trace id provider = record { needs = need image (image_with id) ∷ exchange_needs challenges trace; outcome = vendor_outcome id provider }
 
-abbrev pub vendor_of : List Text → Option Command
-vendor_of (image ∷ id ∷ provider ∷ challenges ∷ trace ∷ []) =
+abbrev pub read_vendor : List Text → Option Command
+read_vendor (image ∷ id ∷ provider ∷ challenges ∷ trace ∷ []) =
     option_and_then (λ n. option_map (λ key. vendor_command image challenges trace n key) (read_hex_key provider)) (id_of id)
-vendor_of _ = None
+read_vendor _ = None

@@ -54,7 +54,7 @@ fn pairs_of(alloc: Global, words: &[&str]) -> Result<Option<Vec<Pair>>, AllocErr
 {
     let mut pairs = Vec::new(alloc);
     for word in words {
-        match pair_of(word) {
+        match read_pair(word) {
             Some(pair) => pairs.push(pair)?,
             None => return Ok(None),
         }
@@ -62,8 +62,8 @@ fn pairs_of(alloc: Global, words: &[&str]) -> Result<Option<Vec<Pair>>, AllocErr
     Ok(Some(pairs))
 }
 
-fn pair_of(word: &str) -> Option<Pair>
-    ensures { result ≡ spec.pair_of word.now }
+fn read_pair(word: &str) -> Option<Pair>
+    ensures { result ≡ spec.read_pair word.now }
 {
     let bytes = word.as_bytes();
     if bytes.len() < VALUE_LENGTH {
@@ -108,8 +108,8 @@ fn free(number: u8) -> Option<u8>
     }
 }
 
-fn is_named(number: u8, pairs: &[Pair]) -> bool
-    ensures { result ≡ spec.is_named number pairs.now }
+fn names_register(number: u8, pairs: &[Pair]) -> bool
+    ensures { result ≡ spec.names_register number pairs.now }
 {
     pairs.iter().any(|pair| pair.number == number)
 }
@@ -119,7 +119,7 @@ fn are_different(pairs: &[Pair]) -> bool
     ensures { result ≡ spec.are_different pairs.now }
 {
     for place in 0..pairs.len() {
-        if is_named(pairs[place].number, &pairs[place + 1..]) {
+        if names_register(pairs[place].number, &pairs[place + 1..]) {
             return false;
         }
     }

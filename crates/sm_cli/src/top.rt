@@ -21,7 +21,7 @@ ghost use Rattle.link_symbols.specs.declared.fault.LinkFault.{LinkFault as LinkF
 ghost use Rattle.sm_cli.specs.CommandLine.{command_of};
 ghost use Rattle.cli_files.specs.Files.{IsFirstFault};
 ghost use Rattle.sm_cli.specs.Input.{IsInput, IsScriptInput};
-ghost use Rattle.sm_cli.specs.MonitorCommand.{start_of, script_answer};
+ghost use Rattle.sm_cli.specs.MonitorCommand.{script_start, script_answer};
 ghost use Rattle.cli_calls.specs.Words.{texts};
 ghost use Rattle.sm_cli.specs.Serve.{call_of};
 ghost use Rattle.cli_calls.specs.Calls.{Serves, Refuses, IsOrOutside, Completes};
@@ -62,10 +62,10 @@ pub fn serve<F: Files, O: Sink, E: Sink>(
         IsScriptInput (texts words.now) (F.content files.old) value entries script →
         ¬ (Rose (F.faults files.old) (F.faults files.new)) → ¬ (Rose (O.faults out.old) (O.faults out.new)) →
         ¬ (Rose (E.faults err.old) (E.faults err.new)) → result ≢ Status.NoMemory →
-        (Took O.taken O.faults O.sure out.old out.new (play (start_of value entries) script) × (err.new ≡ err.old)
+        (Took O.taken O.faults O.sure out.old out.new (play (script_start value entries) script) × (err.new ≡ err.old)
         × (result ≡ (script_answer value entries script).status))
         × ((other : ImageValue) (m : ℕ) → Peers value other m →
-        Took O.taken O.faults O.sure out.old out.new (play (start_of other entries) script)) }
+        Took O.taken O.faults O.sure out.old out.new (play (script_start other entries) script)) }
 
     // A module by itself: where its check is answered yes, every image that differs in its data alone is a peer.
     ensures checked { result ≡ Status.Done → (value other : ImageValue) (id : ℕ) (owner : ModuleValue) →

@@ -1,5 +1,5 @@
 //! `asm SOURCE`: the object of a program.
-ghost use Rattle.sm_cli.specs.AsmCommand.{asm_command, asm_of};
+ghost use Rattle.sm_cli.specs.AsmCommand.{asm_command, read_asm};
 
 use asm_text::AsmUnit;
 use cli_calls::{Answering, Reading};
@@ -15,7 +15,7 @@ pub struct AsmCommand<'a> {
 }
 
 impl<'a> Reading<'a> for AsmCommand<'a> {
-    ghost asks = { asm_of };
+    ghost asks = { read_asm };
 
     fn read_values(_alloc: Global, values: &[&'a str]) -> Result<Option<Self>, AllocError> {
         if values.len() == 1 {

@@ -3,7 +3,7 @@ ghost use Rattle.std.specs.Prelude.{IfOk};
 ghost use Rattle.flow_rule.specs.Arms.{VerdictWith};
 ghost use Rattle.mod_layout.specs.Tables.{IsModule};
 ghost use Rattle.written_machine.specs.Peers.{section};
-ghost use Rattle.sm_cli.specs.BalanceCommand.{balance_command, balance_of};
+ghost use Rattle.sm_cli.specs.BalanceCommand.{balance_command, read_balance};
 
 use cli_calls::{Answering, Reading, id_of, put_verdict, text_of};
 use cli_files::{Chosen, NO_MEMORY, Refused, Status, load, load_with};
@@ -20,7 +20,7 @@ pub struct BalanceCommand<'a> {
 }
 
 impl<'a> Reading<'a> for BalanceCommand<'a> {
-    ghost asks = { balance_of };
+    ghost asks = { read_balance };
 
     fn read_values(_alloc: Global, values: &[&'a str]) -> Result<Option<Self>, AllocError> {
         if values.len() != 3 {

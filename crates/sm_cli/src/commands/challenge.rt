@@ -1,5 +1,5 @@
 //! `challenge CHALLENGES`: the schedule that sends a vendor's challenges.
-ghost use Rattle.sm_cli.specs.ChallengeCommand.{challenge_command, challenge_of};
+ghost use Rattle.sm_cli.specs.ChallengeCommand.{challenge_command, read_challenge};
 
 use cli_calls::{Answering, Reading};
 use cli_files::{NO_MEMORY, Refused, Status, load, status_after};
@@ -14,7 +14,7 @@ pub struct ChallengeCommand<'a> {
 }
 
 impl<'a> Reading<'a> for ChallengeCommand<'a> {
-    ghost asks = { challenge_of };
+    ghost asks = { read_challenge };
 
     fn read_values(_alloc: Global, values: &[&'a str]) -> Result<Option<Self>, AllocError> {
         if values.len() == 1 {

@@ -3,7 +3,7 @@ ghost use Rattle.std.specs.Prelude.{IfOk, []};
 ghost use Rattle.flow_rule.specs.Arms.{VerdictWith};
 ghost use Rattle.mod_layout.specs.Tables.{IsModule};
 ghost use Rattle.written_machine.specs.Peers.{section};
-ghost use Rattle.sm_cli.specs.CheckCommand.{check_command, check_of};
+ghost use Rattle.sm_cli.specs.CheckCommand.{check_command, read_check};
 
 use cli_calls::{Answering, Reading, id_of, put_verdict, text_of};
 use cli_files::{Chosen, NO_MEMORY, Refused, Status, load_with};
@@ -19,7 +19,7 @@ pub struct CheckCommand<'a> {
 }
 
 impl<'a> Reading<'a> for CheckCommand<'a> {
-    ghost asks = { check_of };
+    ghost asks = { read_check };
 
     fn read_values(_alloc: Global, values: &[&'a str]) -> Result<Option<Self>, AllocError> {
         if values.len() != 2 {

@@ -7,7 +7,7 @@ ghost use Rattle.insn_decode.specs.Code.{IsDecoded, length_or_one};
 ghost use Rattle.texts.specs.Hexadecimals.{hex_word};
 ghost use Rattle.sm_io.specs.Sink.{Puts};
 ghost use Rattle.sm_cli.specs.DisCommand as spec;
-ghost use Rattle.sm_cli.specs.DisCommand.{dis_command, dis_of, listing};
+ghost use Rattle.sm_cli.specs.DisCommand.{dis_command, read_dis, listing};
 
 use arrayvec::ArrayString;
 use cli_calls::{Answering, Reading};
@@ -27,7 +27,7 @@ pub struct DisCommand<'a> {
 }
 
 impl<'a> Reading<'a> for DisCommand<'a> {
-    ghost asks = { dis_of };
+    ghost asks = { read_dis };
 
     fn read_values(_alloc: Global, values: &[&'a str]) -> Result<Option<Self>, AllocError> {
         if values.len() != 3 {
@@ -161,7 +161,7 @@ fn push_text(insn: Option<Insn>, at: u16, line: &mut ArrayString<80>)
 fn push_words(memory: &[u8], at: usize, count: u16, line: &mut ArrayString<80>)
     requires low { at ≤ 65535 }
     requires room { array_string_len line.old ≤ 6 }
-    ensures text { line.new.bytes ≡ line.old.bytes ++ spec.words_text memory.now at count }
+    ensures text { line.new.bytes ≡ line.old.bytes ++ spec.memory_words_text memory.now at count }
     ensures most { array_string_len line.new ≤ array_string_len line.old + 15 }
 {
     push_word(dis_word(memory, at), line);

@@ -1,7 +1,7 @@
 //! `key IMAGE ID`: the key of a module's vendor, and the module's.
 ghost use Rattle.mod_layout.specs.Tables.{IsModule};
 ghost use Rattle.sm_io.specs.Sink.{Puts};
-ghost use Rattle.sm_cli.specs.KeyCommand.{key_command, key_of, key_lines, key_line, two_lines};
+ghost use Rattle.sm_cli.specs.KeyCommand.{key_command, read_key, key_lines, named_key_line, two_lines};
 
 use cli_calls::{Answering, Reading, id_of, text_of};
 use cli_files::{Chosen, Refused, Status, load_with, put_named, status_after};
@@ -17,7 +17,7 @@ pub struct KeyCommand<'a> {
 }
 
 impl<'a> Reading<'a> for KeyCommand<'a> {
-    ghost asks = { key_of };
+    ghost asks = { read_key };
 
     fn read_values(_alloc: Global, values: &[&'a str]) -> Result<Option<Self>, AllocError> {
         if values.len() != 2 {
@@ -78,7 +78,7 @@ fn put_both<O: Sink>(
 
 // Puts a line of a name and a key.
 fn put_key<O: Sink>(out: &mut O, name: &[u8], key: &[u8; TAG_LENGTH]) -> Result<(), Failed>
-    ensures { Puts O.taken O.faults O.sure out.old out.new (key_line name.now key.now) result }
+    ensures { Puts O.taken O.faults O.sure out.old out.new (named_key_line name.now key.now) result }
 {
     put_named(out, name, texts::hex_key(key).as_str().as_bytes(), b"\n")
 }

@@ -7,7 +7,7 @@ ghost use Rattle.sm_io.specs.Sink.{Took, CutOff};
 ghost use Rattle.tracer.specs.Lines.{registers_from};
 ghost use Rattle.written_machine.specs.Peers.{section};
 ghost use Rattle.cli_calls.specs.declared.values.TheConstants.{MAX_CYCLES};
-ghost use Rattle.sm_cli.specs.LoneCommand.{lone_command, lone_of, lone_with, end_of, end_answer, end_line, core_line};
+ghost use Rattle.sm_cli.specs.LoneCommand.{lone_command, read_lone, lone_with, lone_end, end_answer, lone_end_line, core_line};
 ghost use Rattle.sm_cli.specs.Pairs.{core_with};
 ghost use Rattle.sm_cli.specs.Numbers.{number_line};
 ghost use Rattle.cli_calls.specs.Runs.{EndsAs};
@@ -35,7 +35,7 @@ pub struct LoneCommand<'a> {
 }
 
 impl<'a> Reading<'a> for LoneCommand<'a> {
-    ghost asks = { lone_of };
+    ghost asks = { read_lone };
 
     fn read_values(alloc: Global, values: &[&'a str]) -> Result<Option<Self>, AllocError> {
         match values {
@@ -82,7 +82,7 @@ impl Answering for LoneCommand<'_> {
             Ok(chosen) => chosen,
             Err(refused) => return Err(refused),
         };
-        match end_of(alloc, &chosen, core_with(self.pairs.as_slice()), self.limit) {
+        match lone_end(alloc, &chosen, core_with(self.pairs.as_slice()), self.limit) {
             Ok(end) => Ok(put_end(self.limit, &end, out)),
             Err(AllocError) => Err(NO_MEMORY),
         }
@@ -102,7 +102,7 @@ fn put_end<O: Sink>(limit: u64, end: &Outcome, out: &mut O) -> Status
 }
 
 // How the call ends, on a copy of the module's data.
-fn end_of(
+fn lone_end(
     alloc: Global,
     chosen: &Chosen,
     registers: Core,
@@ -110,7 +110,7 @@ fn end_of(
 ) -> Result<Outcome, AllocError>
     requires chosen { IsModule chosen.now.image.table.given chosen.now.«module» }
     requires limit { limit ≤ MAX_CYCLES }
-    ensures { IfOk result (λ end. end ≡ call_answer (end_of chosen.now.image chosen.now.«module» registers limit)) }
+    ensures { IfOk result (λ end. end ≡ call_answer (lone_end chosen.now.image chosen.now.«module» registers limit)) }
 {
     let module = &chosen.module;
     let mut data = data_of(chosen).to_vec(alloc)?;
@@ -141,7 +141,7 @@ fn data_of(chosen: &Chosen) -> &[u8]
 
 // The line of how a call ended.
 fn line_of(limit: u64, end: &Outcome) -> ArrayString<128>
-    ensures { result.bytes ≡ end_line limit end.now }
+    ensures { result.bytes ≡ lone_end_line limit end.now }
 {
     match end {
         Outcome::Exit { core, cycles } => core_line("exit ", *cycles, core),

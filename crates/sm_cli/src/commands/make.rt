@@ -1,7 +1,7 @@
 //! `make SEED`: two runs of the workload of a seed.
 ghost use Rattle.std.specs.Prelude.{◌≡◌, ◌≤◌, IfOk};
 ghost use Rattle.sm_io.specs.Sink.{Puts};
-ghost use Rattle.sm_cli.specs.MakeCommand.{make_command, make_of, seed_of, events_after, run_text, runs_text, start_of, first_data, second_data};
+ghost use Rattle.sm_cli.specs.MakeCommand.{make_command, read_make, seed_of, events_after, run_text, runs_text, run_start, first_data, second_data};
 ghost use Rattle.sm_cli.specs.Numbers.{number_line};
 ghost use Rattle.written_machine.specs.Cycle.{after_cycles};
 ghost use Rattle.written_machine.specs.Marks.{unmarked};
@@ -38,7 +38,7 @@ pub struct MakeCommand {
 }
 
 impl<'a> Reading<'a> for MakeCommand {
-    ghost asks = { make_of };
+    ghost asks = { read_make };
 
     fn read_values(_alloc: Global, values: &[&'a str]) -> Result<Option<Self>, AllocError> {
         if values.len() != 1 {
@@ -84,10 +84,10 @@ struct Boards {
 }
 
 // Makes both machines of a seed.
-#[tactic(auto, unfolding(crate::specs::MakeCommand::start_of))]
+#[tactic(auto, unfolding(crate::specs::MakeCommand::run_start))]
 fn boards_of(alloc: Global, seed: u32) -> Result<Boards, NoMemory>
-    ensures first { IfOk result (λ b. b.first ≡ unmarked 0 (start_of seed first_data)) }
-    ensures second { IfOk result (λ b. b.second ≡ unmarked 0 (start_of seed (second_data seed))) }
+    ensures first { IfOk result (λ b. b.first ≡ unmarked 0 (run_start seed first_data)) }
+    ensures second { IfOk result (λ b. b.second ≡ unmarked 0 (run_start seed (second_data seed))) }
 {
     let second_data = workload::next(u64::from(seed)) % WORDS;
     let schedule = workload::schedule(alloc, seed)?;

@@ -2,7 +2,7 @@
 ghost use Rattle.std.specs.Prelude.{◌≤◌, length};
 ghost use Rattle.image_text.specs.Image.{IsImage};
 ghost use Rattle.cli_calls.specs.declared.values.TheConstants.{MAX_CYCLES};
-ghost use Rattle.sm_cli.specs.RunCommand.{run_of};
+ghost use Rattle.sm_cli.specs.RunCommand.{read_run};
 ghost use Rattle.sm_cli.specs.internal.RunCommand.{run_asked};
 
 use crate::commands::image::Trace;
@@ -24,7 +24,7 @@ pub struct RunCommand<'a> {
 }
 
 impl<'a> Reading<'a> for RunCommand<'a> {
-    ghost asks = { run_of };
+    ghost asks = { read_run };
 
     ghost few = { λ n. n ≤ 67 };
 

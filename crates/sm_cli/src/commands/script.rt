@@ -3,7 +3,7 @@ ghost use Rattle.std.specs.Prelude.{◌≤◌, ◌+◌, ◌^◌};
 ghost use Rattle.script_file.specs.Bounds.{all_cycles};
 ghost use Rattle.sm_io.specs.Sink.{Took, CutOff};
 ghost use Rattle.std.specs.Option.{option_copied};
-ghost use Rattle.sm_cli.specs.MonitorCommand.{monitor_command, monitor_of, play_answer};
+ghost use Rattle.sm_cli.specs.MonitorCommand.{monitor_command, read_monitor, play_answer};
 ghost use Rattle.cli_calls.specs.Runs.{EndsAs};
 
 use board::{Board, Ran};
@@ -30,7 +30,7 @@ pub struct MonitorCommand<'a> {
 }
 
 impl<'a> Reading<'a> for MonitorCommand<'a> {
-    ghost asks = { monitor_of };
+    ghost asks = { read_monitor };
 
     fn read_values(_alloc: Global, values: &[&'a str]) -> Result<Option<Self>, AllocError> {
         if values.len() != 3 {

@@ -7,7 +7,7 @@ ghost use Rattle.cli_files.specs.Files.{Holds, need, challenges_file, trace_file
 ghost use Rattle.cli_files.specs.NameText.{name_text};
 ghost use Rattle.cli_calls.specs.Runs.{EndsAs};
 ghost use Rattle.cli_files.specs.Causes.{IsNeedCause};
-ghost use Rattle.sm_cli.specs.VendorCommand.{vendor_command, vendor_of, exchange_needs, key_under, report_answer};
+ghost use Rattle.sm_cli.specs.VendorCommand.{vendor_command, read_vendor, exchange_needs, key_under, report_answer};
 
 use cli_calls::{Answering, Reading, id_of, text_of};
 use cli_files::{Chosen, Refusal, Refused, Replies, Status, load, load_with};
@@ -29,7 +29,7 @@ pub struct VendorCommand<'a> {
 }
 
 impl<'a> Reading<'a> for VendorCommand<'a> {
-    ghost asks = { vendor_of };
+    ghost asks = { read_vendor };
 
     fn read_values(_alloc: Global, values: &[&'a str]) -> Result<Option<Self>, AllocError> {
         if values.len() != 5 {
