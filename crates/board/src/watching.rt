@@ -2,7 +2,7 @@
 
 ghost use Rattle.std.specs.Prelude.{◌≡◌};
 ghost use Rattle.sm_words.specs.Words.{add16, word_at};
-ghost use Rattle.irq_padding.specs.Turns.{kind_of};
+ghost use Rattle.irq_padding.specs.Turns.{turn_kind};
 ghost use Rattle.written_machine.specs.Checks.{entered};
 ghost use Rattle.written_machine.specs.Cycle.{byte_of, case_of, pc_of};
 ghost use Rattle.written_machine.specs.State.{State};
@@ -41,7 +41,7 @@ impl Settled<'_> {
 
     /// Whether an instruction begins, or is refused.
     pub fn begins(&self) -> bool
-        ensures { result ≡ is_begin (kind_of (case_of self.now)) }
+        ensures { result ≡ is_begin (turn_kind (case_of self.now)) }
     {
         matches!(self.machine.kind(self.machine.raised()), Turn::Begin)
     }

@@ -16,6 +16,6 @@ stepped_by (Pad left) p = padding (left - 1)
 stepped_by (Run rest) p = p
 
 -- n cycles later
-abbrev pub stepped : ℕ → Phase × After → Phase × After
-stepped zero p = p
-stepped (suc n) p = let q = stepped n p in stepped_by q.0 q
+abbrev pub after_steps : ℕ → Phase × After → Phase × After
+after_steps zero p = p
+after_steps (suc n) p = let q = after_steps n p in stepped_by q.0 q

@@ -30,10 +30,10 @@ turn_of (Run zero) None None true = Sleeps
 turn_of (Run zero) None active off = Begins
 
 -- the kind alone
-abbrev pub kind_of : Turn → Kind
-kind_of (Pads left) = Pad
-kind_of (InterruptsModule vector id rest) = Inside
-kind_of (InterruptsOutside vector) = Outside
-kind_of (Continues rest) = Wait
-kind_of Sleeps = Sleep
-kind_of Begins = Begin
+abbrev pub turn_kind : Turn → Kind
+turn_kind (Pads left) = Pad
+turn_kind (InterruptsModule vector id rest) = Inside
+turn_kind (InterruptsOutside vector) = Outside
+turn_kind (Continues rest) = Wait
+turn_kind Sleeps = Sleep
+turn_kind Begins = Begin

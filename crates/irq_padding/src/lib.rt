@@ -2,7 +2,7 @@
 #![tactic(auto)]
 
 ghost use Rattle.std.specs.Prelude.{◌≡◌, ◌-◌, ◌<◌};
-ghost use Rattle.irq_padding.specs.Padding.{padding, stepped};
+ghost use Rattle.irq_padding.specs.Padding.{padding, after_steps};
 
 use reg_backup::{After, Phase};
 
@@ -43,7 +43,7 @@ pub fn pad_step(left: u8) -> (Phase, After)
 /// The same once `n` of the `left` cycles of padding have passed.
 pub fn pad_by(left: u8, n: u8) -> (Phase, After)
     requires some { 0 < n }
-    ensures stepped { result ≡ stepped n (Phase.Pad left, After.Next) }
+    ensures stepped { result ≡ after_steps n (Phase.Pad left, After.Next) }
     ensures padding { result ≡ padding (left - n) }
 {
     if n < left {

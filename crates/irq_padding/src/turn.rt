@@ -1,7 +1,7 @@
 //! The case that a cycle ends in.
 
 ghost use Rattle.std.specs.Prelude.{◌≡◌, ◌&&◌, ℕ, true, Option, is_some};
-ghost use Rattle.irq_padding.specs.Turns.{turn_of, kind_of};
+ghost use Rattle.irq_padding.specs.Turns.{turn_of, turn_kind};
 
 use reg_backup::Phase;
 
@@ -29,7 +29,7 @@ pub enum Turn {
 /// whatever its rest is; one of the outside waits for the end of the instruction.
 pub fn choose(phase: Phase, raised: bool, room: bool, inside: bool, asleep: bool) -> Turn
     ensures turn { (due active : Option ℕ) → is_some due ≡ (raised && room) → is_some active ≡ inside →
-        result ≡ kind_of (turn_of phase due active asleep) }
+        result ≡ turn_kind (turn_of phase due active asleep) }
     ensures inside { result ≡ Turn.Inside → (raised && room && inside) ≡ true }
     ensures outside { result ≡ Turn.Outside → (raised && room) ≡ true }
 {

@@ -16,7 +16,7 @@ use Rattle.pc_access.specs.declared.Stop.{Stop}
 use Rattle.reg_backup.specs.Held.{held_ids}
 use Rattle.reg_backup.specs.declared.frames.Frame.{Frame}
 use Rattle.reg_backup.specs.declared.frames.Frame.TheVariants.{Module as Held}
-use Rattle.irq_padding.specs.Turns.{Turn, Begins, kind_of}
+use Rattle.irq_padding.specs.Turns.{Turn, Begins, turn_kind}
 use Rattle.cpu_step.specs.Asked.{asks}
 use Rattle.cpu_step.specs.Fetched.{insn_at, later_word}
 use Rattle.cpu_step.specs.Plan.{past}
@@ -88,20 +88,20 @@ unrefused s e =
 
 -- ---- a look
 
-begins_is : (turn : Turn) → is_begin (kind_of turn) ≡ true → turn ≡ Begins
+begins_is : (turn : Turn) → is_begin (turn_kind turn) ≡ true → turn ≡ Begins
 begins_is Begins e = refl
 begins_is _ e = absurd cc
 
-none_in : (turn : Turn) (s : State) → is_begin (kind_of turn) ≡ false → begun_in turn s ≡ None
+none_in : (turn : Turn) (s : State) → is_begin (turn_kind turn) ≡ false → begun_in turn s ≡ None
 none_in Begins s e = absurd cc
 none_in _ s e = refl
 
 -- none begins
-pub none_begins : (s : State) → is_begin (kind_of (case_of s)) ≡ false → Sees s None
+pub none_begins : (s : State) → is_begin (turn_kind (case_of s)) ≡ false → Sees s None
 none_begins s e refused = sym (none_in (case_of s) (entered s) e)
 
 -- there is none
-pub none_there : (s : State) (v1 v2 : ℕ) → is_begin (kind_of (case_of s)) ≡ true → insn_of (word_at (byte_of s) (pc_of s)) v1 v2 ≡ None → Sees s None
+pub none_there : (s : State) (v1 v2 : ℕ) → is_begin (turn_kind (case_of s)) ≡ true → insn_of (word_at (byte_of s) (pc_of s)) v1 v2 ≡ None → Sees s None
 none_there s v1 v2 b e refused =
     let w0 : ℕ = first_word s in
     let t = entered s in
@@ -113,7 +113,7 @@ abbrev of_parts : List ℕ → List ℕ → List ℕ → Begun
 of_parts core past lines = record { core = core; past = past; lines = lines }
 
 -- there is one
-pub one_there : (s : State) (insn : Insn) (f : Found) → is_begin (kind_of (case_of s)) ≡ true
+pub one_there : (s : State) (insn : Insn) (f : Found) → is_begin (turn_kind (case_of s)) ≡ true
     → insn_of (word_at (byte_of s) (pc_of s)) (word_at (byte_of s) (add16 (pc_of s) 2)) (word_at (byte_of s) (add16 (pc_of s) 4)) ≡ Some insn
     → f.core ≡ s.core → f.past ≡ past insn s.core → (AreAligned (plan_shown insn s.frames s.core) → f.lines.bytes ≡ (begun_as (entered s) insn).lines)
     → Sees s (Some f)
@@ -138,10 +138,10 @@ one_there s insn f b e core_is past_is lines_are refused =
     ∙ sym (ap (λ (x : Turn). begun_in x t) turn ∙ ap (λ (o : Option Insn). option_map (begun_as t) o) at)
 
 -- the same by the words that were read
-pub none_read : (s : State) (w0 w1 w2 : ℕ) (o : Option Insn) → is_begin (kind_of (case_of s)) ≡ true → w0 ≡ word_at (byte_of s) (pc_of s) → o ≡ insn_of w0 w1 w2 → o ≡ None → Sees s None
+pub none_read : (s : State) (w0 w1 w2 : ℕ) (o : Option Insn) → is_begin (turn_kind (case_of s)) ≡ true → w0 ≡ word_at (byte_of s) (pc_of s) → o ≡ insn_of w0 w1 w2 → o ≡ None → Sees s None
 none_read s w0 w1 w2 o b first is none = none_there s w1 w2 b (ap (λ (w : ℕ). insn_of w w1 w2) (sym first) ∙ sym is ∙ none)
 
-pub one_read : (s : State) (w0 w1 w2 : ℕ) (o : Option Insn) (insn : Insn) (f : Found) → is_begin (kind_of (case_of s)) ≡ true
+pub one_read : (s : State) (w0 w1 w2 : ℕ) (o : Option Insn) (insn : Insn) (f : Found) → is_begin (turn_kind (case_of s)) ≡ true
     → w0 ≡ word_at (byte_of s) (pc_of s) → w1 ≡ word_at (byte_of s) (add16 (pc_of s) 2) → w2 ≡ word_at (byte_of s) (add16 (pc_of s) 4) → o ≡ insn_of w0 w1 w2 → o ≡ Some insn
     → f.core ≡ s.core → f.past ≡ past insn s.core → (AreAligned (plan_shown insn s.frames s.core) → f.lines.bytes ≡ (begun_as (entered s) insn).lines) → Sees s (Some f)
 one_read s w0 w1 w2 o insn f b first second third is some core_is past_is lines_are =

@@ -4,13 +4,13 @@ use Rattle.std.proofs.lemmas.List.{reverse-reverse}
 use Rattle.std.proofs.lemmas.Option.{slice_get-map, slice_get_read}
 use Rattle.std.specs.Option.{option_map}
 use Rattle.reg_backup.specs.declared.frames.Frame.{Frame}
-use Rattle.reg_backup.specs.Held.{kind_of, kinds}
+use Rattle.reg_backup.specs.Held.{frame_kind, kinds}
 
 -- the kind at a place, by the frame at that place of the list with the oldest first
 pub slice_get-kinds : (frames items : List Frame) (n : ℕ) (f : Frame) → reverse items ≡ frames → n < length items →
-    f ≡ get_or items n f → Some (kind_of f) ≡ slice_get (kinds frames) n
+    f ≡ get_or items n f → Some (frame_kind f) ≡ slice_get (kinds frames) n
 slice_get-kinds frames items n f view below read =
-    sym (ap (λ fs. slice_get (map kind_of (reverse fs)) n) (sym view)
-    ∙ ap (λ fs. slice_get (map kind_of fs) n) (reverse-reverse items)
-    ∙ slice_get-map kind_of items n
-    ∙ ap (option_map kind_of) (slice_get_read items (length items) n f refl below read))
+    sym (ap (λ fs. slice_get (map frame_kind (reverse fs)) n) (sym view)
+    ∙ ap (λ fs. slice_get (map frame_kind fs) n) (reverse-reverse items)
+    ∙ slice_get-map frame_kind items n
+    ∙ ap (option_map frame_kind) (slice_get_read items (length items) n f refl below read))

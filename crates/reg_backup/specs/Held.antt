@@ -12,18 +12,18 @@ held_ids (Plain ∷ fs) = held_ids fs
 held_ids (Module b ∷ fs) = b.module ∷ held_ids fs
 
 -- what a frame is
-abbrev pub kind_of : Frame → FrameKind
-kind_of Plain = PlainKind
-kind_of (Module b) = ModuleKind b.module
+abbrev pub frame_kind : Frame → FrameKind
+frame_kind Plain = PlainKind
+frame_kind (Module b) = ModuleKind b.module
 
 -- the frames' kinds, the oldest first
 abbrev pub kinds : List Frame → List FrameKind
-kinds fs = map kind_of (reverse fs)
+kinds fs = map frame_kind (reverse fs)
 
 -- what the newest frame is, if one stands
 abbrev pub newest_kind : List Frame → Option FrameKind
 newest_kind [] = None
-newest_kind (f ∷ fs) = Some (kind_of f)
+newest_kind (f ∷ fs) = Some (frame_kind f)
 
 -- the number is none of these
 abbrev pub IsAbsent : ℕ → List ℕ → Type 0

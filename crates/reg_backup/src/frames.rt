@@ -28,10 +28,10 @@ pub enum Frame {
 }
 
 impl Frame {
-    ghost use Rattle.reg_backup.specs.Held.{kind_of};
+    ghost use Rattle.reg_backup.specs.Held.{frame_kind};
 
     fn kind(&self) -> FrameKind
-        ensures { result ≡ kind_of self.now }
+        ensures { result ≡ frame_kind self.now }
     {
         match self {
             Frame::Plain => FrameKind::Plain,

@@ -1,5 +1,5 @@
 use Rattle.std.proofs.Common.{◌≡◌, ◌&&◌, false, is_some, ap, ◌∙◌, Bool}
-use Rattle.irq_padding.specs.Turns.{turn_of, kind_of}
+use Rattle.irq_padding.specs.Turns.{turn_of, turn_kind}
 use Rattle.written_machine.specs.Cycle.{due, has_room}
 use Rattle.written_machine.specs.State.{State}
 use Rattle.written_machine.specs.Passing.{asleep}
@@ -14,7 +14,7 @@ returns-then-not-raised-clause-kind c =
     let none : is_some (raised s) ≡ false = cc in
     let inside : is_some s.active ≡ c.is_some-inside.result = cc in
     let off : c.is_asleep.result ≡ asleep s = cc in
-    let k : c.choose.result ≡ kind_of (turn_of s.phase (due s) s.active c.is_asleep.result) =
+    let k : c.choose.result ≡ turn_kind (turn_of s.phase (due s) s.active c.is_asleep.result) =
     c.choose.ensures.turn (due s) s.active (is_due s ∙ ap (λ (b : Bool). b && has_room s) none) inside in
     cc
 
@@ -24,5 +24,5 @@ returns-clause-kind c =
     let room : (is_some (raised s) && has_room s) ≡ (c.is_some-raised.result && c.has_room.result) = cc in
     let inside : is_some s.active ≡ c.is_some-inside.result = cc in
     let off : c.is_asleep-2.result ≡ asleep s = cc in
-    let k : c.choose-2.result ≡ kind_of (turn_of s.phase (due s) s.active c.is_asleep-2.result) = c.choose-2.ensures.turn (due s) s.active (is_due s ∙ room) inside in
+    let k : c.choose-2.result ≡ turn_kind (turn_of s.phase (due s) s.active c.is_asleep-2.result) = c.choose-2.ensures.turn (due s) s.active (is_due s ∙ room) inside in
     cc
