@@ -6,7 +6,7 @@ use Rattle.schedule_file.specs.declared.What.{What}
 use Rattle.schedule_file.specs.declared.What.TheVariants.{Serial}
 use Rattle.devices.specs.Devices.{Devices, ticked_devices, counts, scheduled, happens}
 use Rattle.devices.specs.Time.{ticked_by}
-use Rattle.devices.specs.internal.Time.{counted_by}
+use Rattle.devices.specs.internal.Time.{after_ticks}
 use Rattle.devices.specs.internal.Bus.{acted_before, past_count}
 use Rattle.devices.proofs.Order.{Rises, Rises-below}
 
@@ -52,9 +52,9 @@ scheduled-past f each [] k d = refl
 scheduled-past f each (e ∷ es) k d =
     scheduled-past f each es k (happens_if (nat_eq e.cycle k) e.what d) ∙ ap (scheduled es k) (each (nat_eq e.cycle k) e.what d)
 
-pub scheduled-counted_by : (n : ℕ) (es : List Entry) (k : ℕ) (d : Devices) → counted_by n (scheduled es k d) ≡ scheduled es k (counted_by n d)
-scheduled-counted_by zero es k d = refl
-scheduled-counted_by (suc n) es k d = ap (counted_by n) (scheduled-past counts happens_if-counts es k d) ∙ scheduled-counted_by n es k (counts d)
+pub scheduled-after_ticks : (n : ℕ) (es : List Entry) (k : ℕ) (d : Devices) → after_ticks n (scheduled es k d) ≡ scheduled es k (after_ticks n d)
+scheduled-after_ticks zero es k d = refl
+scheduled-after_ticks (suc n) es k d = ap (after_ticks n) (scheduled-past counts happens_if-counts es k d) ∙ scheduled-after_ticks n es k (counts d)
 
 -- nothing that happens sends a byte
 happens_if-clear : (b : Bool) (w : What) (d : Devices) → clear (happens_if b w d) ≡ happens_if b w (clear d)
@@ -126,7 +126,7 @@ within-none (e ∷ es) k h d less =
     ap (λ b. acted_within k h es (happens_if b e.what d)) off ∙ within-none es k h d less
 
 -- n ticks clear what was sent, count n times, and let the entries of their cycles act
-pub ticked_by-within : (n k : ℕ) (d : Devices) (es : List Entry) → d.schedule ≡ es → Rises 0 es → ticked_by n k d ≡ acted_within k (k + n) es (counted_by n (cleared n d))
+pub ticked_by-within : (n k : ℕ) (d : Devices) (es : List Entry) → d.schedule ≡ es → Rises 0 es → ticked_by n k d ≡ acted_within k (k + n) es (after_ticks n (cleared n d))
 unfolding ticked_devices
 ticked_by-within zero k d es is r = sym (within-none es k (k + 0) d (omega arith))
 ticked_by-within (suc n) k d es is r =
@@ -135,10 +135,10 @@ ticked_by-within (suc n) k d es is r =
     let h : k + 1 + n ≡ k + suc n = omega arith in
     ap (λ s. ticked_by n (k + 1) (counts (scheduled s k (clear d)))) is
     ∙ ticked_by-within n (k + 1) x es kept r
-    ∙ ap (λ y. acted_within (k + 1) (k + 1 + n) es (counted_by n y)) (cleared-counts n es k d)
-    ∙ ap (acted_within (k + 1) (k + 1 + n) es) (scheduled-counted_by (suc n) es k (clear d))
-    ∙ sym (within-first es 0 k (k + 1 + n) (counted_by (suc n) (clear d)) r (omega arith))
-    ∙ ap (λ z. acted_within k z es (counted_by (suc n) (clear d))) h
+    ∙ ap (λ y. acted_within (k + 1) (k + 1 + n) es (after_ticks n y)) (cleared-counts n es k d)
+    ∙ ap (acted_within (k + 1) (k + 1 + n) es) (scheduled-after_ticks (suc n) es k (clear d))
+    ∙ sym (within-first es 0 k (k + 1 + n) (after_ticks (suc n) (clear d)) r (omega arith))
+    ∙ ap (λ z. acted_within k z es (after_ticks (suc n) (clear d))) h
 
 within-late : (es : List Entry) (low k h : ℕ) (d : Devices) → Rises low es → h ≤ low → acted_within k h es d ≡ d
 within-late [] low k h d r late = refl

@@ -4,9 +4,9 @@ use Rattle.std.specs.Option.{option_or}
 use Rattle.schedule_file.specs.declared.Entry.{Entry}
 use Rattle.devices.specs.Devices.{Devices, line_of, timer_line, serial_line, highest_line}
 use Rattle.devices.specs.Time.{ticked_by, before_entries, timer_quiet, quiet_of}
-use Rattle.devices.specs.internal.Time.{counted_by}
+use Rattle.devices.specs.internal.Time.{after_ticks}
 use Rattle.devices.specs.Parts.{LinesPart, SerialPart, TimerPart, serial_alone, timer_alone}
-use Rattle.devices.specs.internal.Parts.{joined}
+use Rattle.devices.specs.internal.Parts.{joined_parts, serial_part, timer_part}
 use Rattle.devices.specs.internal.Bus.{acted_before, past_count, IsDue}
 use Rattle.devices.proofs.Still.{ticked_by-serial}
 use Rattle.devices.proofs.Timing.{ticked_by-timer}
@@ -14,12 +14,6 @@ use Rattle.devices.proofs.Order.{Rises, Rises-all, past_count-le-length}
 use Rattle.devices.proofs.Acting.{cleared, acted_within, ticked_by-within, within-before, counts_by}
 use Rattle.devices.proofs.Waiting.{within-quiet, before_entries-le, before_entries-due, before_entries-done, past_count-cycle}
 use Rattle.std.proofs.lemmas.List.{get_or-drop, length-drop}
-
-abbrev pub serial_part : Devices → SerialPart
-serial_part d = record { listening = d.listening; got = d.got; lost = d.lost; byte = d.byte; sent = d.sent }
-
-abbrev pub timer_part : Devices → TimerPart
-timer_part d = record { running = d.running; alarm = d.alarm; flag = d.flag; count = d.count; limit = d.limit }
 
 -- the serial device after n ticks
 abbrev pub serial_after : ℕ → SerialPart → SerialPart
@@ -30,9 +24,9 @@ ticked_by-serial_after : (n k : ℕ) (s : SerialPart) → ticked_by n k (serial_
 ticked_by-serial_after zero k s = refl
 ticked_by-serial_after (suc n) k s = ticked_by-serial (suc n) k s (omega arith)
 
-cleared-joined : (n : ℕ) (l : LinesPart) (s : SerialPart) (t : TimerPart) (es : List Entry) → cleared n (joined l s t es) ≡ joined l (serial_after n s) t es
-cleared-joined zero l s t es = refl
-cleared-joined (suc n) l s t es = refl
+cleared-joined_parts : (n : ℕ) (l : LinesPart) (s : SerialPart) (t : TimerPart) (es : List Entry) → cleared n (joined_parts l s t es) ≡ joined_parts l (serial_after n s) t es
+cleared-joined_parts zero l s t es = refl
+cleared-joined_parts (suc n) l s t es = refl
 
 -- the timer after one tick, and after n
 abbrev pub stepped_by : Bool → Bool → TimerPart → TimerPart
@@ -42,45 +36,45 @@ abbrev pub timer_after : ℕ → TimerPart → TimerPart
 timer_after zero t = t
 timer_after (suc n) t = timer_after n (stepped_by t.running (nat_eq t.count t.limit) t)
 
-counts_by-joined : (r q : Bool) (l : LinesPart) (s : SerialPart) (t : TimerPart) (es : List Entry) → counts_by r q (joined l s t es) ≡ joined l s (stepped_by r q t) es
-counts_by-joined true true l s t es = refl
-counts_by-joined _ _ l s t es = refl
+counts_by-joined_parts : (r q : Bool) (l : LinesPart) (s : SerialPart) (t : TimerPart) (es : List Entry) → counts_by r q (joined_parts l s t es) ≡ joined_parts l s (stepped_by r q t) es
+counts_by-joined_parts true true l s t es = refl
+counts_by-joined_parts _ _ l s t es = refl
 
-counted_by-joined : (n : ℕ) (l : LinesPart) (s : SerialPart) (t : TimerPart) (es : List Entry) → counted_by n (joined l s t es) ≡ joined l s (timer_after n t) es
-counted_by-joined zero l s t es = refl
-counted_by-joined (suc n) l s t es =
-    ap (counted_by n) (counts_by-joined t.running (nat_eq t.count t.limit) l s t es) ∙ counted_by-joined n l s (stepped_by t.running (nat_eq t.count t.limit) t) es
+after_ticks-joined_parts : (n : ℕ) (l : LinesPart) (s : SerialPart) (t : TimerPart) (es : List Entry) → after_ticks n (joined_parts l s t es) ≡ joined_parts l s (timer_after n t) es
+after_ticks-joined_parts zero l s t es = refl
+after_ticks-joined_parts (suc n) l s t es =
+    ap (after_ticks n) (counts_by-joined_parts t.running (nat_eq t.count t.limit) l s t es) ∙ after_ticks-joined_parts n l s (stepped_by t.running (nat_eq t.count t.limit) t) es
 
 counts_by-alone : (r q : Bool) (t : TimerPart) → counts_by r q (timer_alone t) ≡ timer_alone (stepped_by r q t)
 counts_by-alone true true t = refl
 counts_by-alone _ _ t = refl
 
-counted_by-alone : (n : ℕ) (t : TimerPart) → counted_by n (timer_alone t) ≡ timer_alone (timer_after n t)
-counted_by-alone zero t = refl
-counted_by-alone (suc n) t = ap (counted_by n) (counts_by-alone t.running (nat_eq t.count t.limit) t) ∙ counted_by-alone n (stepped_by t.running (nat_eq t.count t.limit) t)
+after_ticks-alone : (n : ℕ) (t : TimerPart) → after_ticks n (timer_alone t) ≡ timer_alone (timer_after n t)
+after_ticks-alone zero t = refl
+after_ticks-alone (suc n) t = ap (after_ticks n) (counts_by-alone t.running (nat_eq t.count t.limit) t) ∙ after_ticks-alone n (stepped_by t.running (nat_eq t.count t.limit) t)
 
 pub ticked_by-timer_after : (n k : ℕ) (t : TimerPart) → ticked_by n k (timer_alone t) ≡ timer_alone (timer_after n t)
-ticked_by-timer_after n k t = ticked_by-timer n k t.running t.alarm t.flag t.count t.limit ∙ counted_by-alone n t
+ticked_by-timer_after n k t = ticked_by-timer n k t.running t.alarm t.flag t.count t.limit ∙ after_ticks-alone n t
 
 -- the whole of n ticks, from what each device does alone
-ticked_by-joined : (n k : ℕ) (l : LinesPart) (s : SerialPart) (t : TimerPart) (es : List Entry) → Rises 0 es
-    → ticked_by n k (joined l s t es) ≡ acted_within k (k + n) es (joined l (serial_after n s) (timer_after n t) es)
-ticked_by-joined n k l s t es r =
-    ticked_by-within n k (joined l s t es) es refl r
-    ∙ ap (λ d. acted_within k (k + n) es (counted_by n d)) (cleared-joined n l s t es)
-    ∙ ap (acted_within k (k + n) es) (counted_by-joined n l (serial_after n s) t es)
+ticked_by-joined_parts : (n k : ℕ) (l : LinesPart) (s : SerialPart) (t : TimerPart) (es : List Entry) → Rises 0 es
+    → ticked_by n k (joined_parts l s t es) ≡ acted_within k (k + n) es (joined_parts l (serial_after n s) (timer_after n t) es)
+ticked_by-joined_parts n k l s t es r =
+    ticked_by-within n k (joined_parts l s t es) es refl r
+    ∙ ap (λ d. acted_within k (k + n) es (after_ticks n d)) (cleared-joined_parts n l s t es)
+    ∙ ap (acted_within k (k + n) es) (after_ticks-joined_parts n l (serial_after n s) t es)
 
 pub advanced : (n k acted : ℕ) (l : LinesPart) (s s' : SerialPart) (t t' : TimerPart) (es : List Entry) → IsDue es acted k
     → serial_alone s' ≡ ticked_by n 0 (serial_alone s) → timer_alone t' ≡ ticked_by n 0 (timer_alone t)
-    → acted_before (k + n) (drop acted es) (joined l s' t' es) ≡ ticked_by n k (joined l s t es)
+    → acted_before (k + n) (drop acted es) (joined_parts l s' t' es) ≡ ticked_by n k (joined_parts l s t es)
 advanced n k acted l s s' t t' es due serial timer =
     let is_serial : s' ≡ serial_after n s = ap serial_part (serial ∙ ticked_by-serial_after n 0 s) in
     let is_timer : t' ≡ timer_after n t = ap timer_part (timer ∙ ticked_by-timer_after n 0 t) in
     let r : Rises 0 es = Rises-all es due.falls in
-    ap (λ a. acted_before (k + n) (drop a es) (joined l s' t' es)) due.place
-    ∙ ap (λ x. acted_before (k + n) (drop (past_count k es) es) (joined l x t' es)) is_serial
-    ∙ ap (λ x. acted_before (k + n) (drop (past_count k es) es) (joined l (serial_after n s) x es)) is_timer
-    ∙ sym (ticked_by-joined n k l s t es r ∙ within-before es 0 k (k + n) (joined l (serial_after n s) (timer_after n t) es) r)
+    ap (λ a. acted_before (k + n) (drop a es) (joined_parts l s' t' es)) due.place
+    ∙ ap (λ x. acted_before (k + n) (drop (past_count k es) es) (joined_parts l x t' es)) is_serial
+    ∙ ap (λ x. acted_before (k + n) (drop (past_count k es) es) (joined_parts l (serial_after n s) x es)) is_timer
+    ∙ sym (ticked_by-joined_parts n k l s t es r ∙ within-before es 0 k (k + n) (joined_parts l (serial_after n s) (timer_after n t) es) r)
 
 -- the timer's part of the raised vector, from the timer alone
 rings : (b c : Bool) → option_or {T = ℕ} (cond b (Some 8) None) None ≡ option_or {T = ℕ} (cond c (Some 8) None) None → ◌≡◌ {A = Option ℕ} (cond b (Some 8) None) (cond c (Some 8) None)
@@ -92,19 +86,19 @@ timer_line-alone : (t u : TimerPart) → line_of (timer_alone u) ≡ line_of (ti
 unfolding line_of
 timer_line-alone t u h = rings (u.alarm && u.flag) (t.alarm && t.flag) h
 
-line_of-joined : (n : ℕ) (l : LinesPart) (s : SerialPart) (t u : TimerPart) (es : List Entry) → timer_line (timer_alone u) ≡ timer_line (timer_alone t)
-    → line_of (joined l (serial_after n s) u es) ≡ line_of (joined l s t es)
+line_of-joined_parts : (n : ℕ) (l : LinesPart) (s : SerialPart) (t u : TimerPart) (es : List Entry) → timer_line (timer_alone u) ≡ timer_line (timer_alone t)
+    → line_of (joined_parts l (serial_after n s) u es) ≡ line_of (joined_parts l s t es)
 unfolding line_of
-line_of-joined zero l s t u es h = ap (λ x. option_or x (option_or (serial_line (joined l s t es)) (highest_line (joined l s t es)))) h
-line_of-joined (suc n) l s t u es h = ap (λ x. option_or x (option_or (serial_line (joined l s t es)) (highest_line (joined l s t es)))) h
+line_of-joined_parts zero l s t u es h = ap (λ x. option_or x (option_or (serial_line (joined_parts l s t es)) (highest_line (joined_parts l s t es)))) h
+line_of-joined_parts (suc n) l s t u es h = ap (λ x. option_or x (option_or (serial_line (joined_parts l s t es)) (highest_line (joined_parts l s t es)))) h
 
 -- while no entry acts and the timer's vector stays, the raised vector stays
 pub line_of-quiet : (n k q : ℕ) (l : LinesPart) (s : SerialPart) (t : TimerPart) (es : List Entry) → Rises 0 es → n ≤ before_entries es k q
     → line_of (ticked_by n 0 (timer_alone t)) ≡ line_of (timer_alone t)
-    → line_of (ticked_by n k (joined l s t es)) ≡ line_of (joined l s t es)
+    → line_of (ticked_by n k (joined_parts l s t es)) ≡ line_of (joined_parts l s t es)
 line_of-quiet n k q l s t es r quiet timer =
-    ap line_of (ticked_by-joined n k l s t es r ∙ within-quiet es n k q (joined l (serial_after n s) (timer_after n t) es) quiet)
-    ∙ line_of-joined n l s t (timer_after n t) es (timer_line-alone t (timer_after n t) (sym (ap line_of (ticked_by-timer_after n 0 t)) ∙ timer))
+    ap line_of (ticked_by-joined_parts n k l s t es r ∙ within-quiet es n k q (joined_parts l (serial_after n s) (timer_after n t) es) quiet)
+    ∙ line_of-joined_parts n l s t (timer_after n t) es (timer_line-alone t (timer_after n t) (sym (ap line_of (ticked_by-timer_after n 0 t)) ∙ timer))
 
 first-due : (es : List Entry) (acted : ℕ) (d : Entry) → get_or (drop acted es) 0 d ≡ get_or es acted d
 first-due es acted d = let e : acted + 0 ≡ acted = omega arith in get_or-drop acted es 0 d ∙ ap (λ i. get_or es i d) e
@@ -117,7 +111,7 @@ cycle-due es acted k d due some =
 
 -- the quiet ends before the next entry, or with the timer's
 pub quiet_of-due : (k acted : ℕ) (l : LinesPart) (s : SerialPart) (t : TimerPart) (es : List Entry) (d : Entry) → IsDue es acted k → 0 < length (drop acted es)
-    → quiet_of (joined l s t es) k ≡ min (quiet_of (timer_alone t) 0) ((get_or (drop acted es) 0 d).cycle - k)
+    → quiet_of (joined_parts l s t es) k ≡ min (quiet_of (timer_alone t) 0) ((get_or (drop acted es) 0 d).cycle - k)
 unfolding quiet_of timer_quiet
 quiet_of-due k acted l s t es d due some =
     let within : past_count k es < length es = omega (arith, due.place, some, length-drop acted es) in
@@ -125,15 +119,15 @@ quiet_of-due k acted l s t es d due some =
     ∙ ap (λ (e : Entry). min (timer_quiet (timer_alone t)) (e.cycle - k)) (sym (first-due es acted d ∙ ap (λ i. get_or es i d) due.place))
 
 pub quiet_of-done : (k acted : ℕ) (l : LinesPart) (s : SerialPart) (t : TimerPart) (es : List Entry) → IsDue es acted k → length (drop acted es) < 1
-    → quiet_of (joined l s t es) k ≡ quiet_of (timer_alone t) 0
+    → quiet_of (joined_parts l s t es) k ≡ quiet_of (timer_alone t) 0
 unfolding quiet_of timer_quiet
 quiet_of-done k acted l s t es due none =
     let most = past_count-le-length k es in
     before_entries-done es k (timer_quiet (timer_alone t)) (omega (arith, due.place, none, length-drop acted es, most))
 
-pub quiet_of-stays : (n k acted : ℕ) (l : LinesPart) (s : SerialPart) (t : TimerPart) (es : List Entry) → IsDue es acted k → n ≤ quiet_of (joined l s t es) k
+pub quiet_of-stays : (n k acted : ℕ) (l : LinesPart) (s : SerialPart) (t : TimerPart) (es : List Entry) → IsDue es acted k → n ≤ quiet_of (joined_parts l s t es) k
     → ((m : ℕ) → m ≤ quiet_of (timer_alone t) 0 → line_of (ticked_by m 0 (timer_alone t)) ≡ line_of (timer_alone t))
-    → line_of (ticked_by n k (joined l s t es)) ≡ line_of (joined l s t es)
+    → line_of (ticked_by n k (joined_parts l s t es)) ≡ line_of (joined_parts l s t es)
 unfolding quiet_of timer_quiet
 quiet_of-stays n k acted l s t es due quiet timer =
     let most = before_entries-le es k (timer_quiet (timer_alone t)) in

@@ -5,7 +5,7 @@ ghost use Rattle.schedule_file.specs.declared.Entry.{Entry};
 ghost use Rattle.schedule_file.specs.Entries.{CyclesNeverFall, HasLine, line_number};
 ghost use Rattle.devices.specs.Devices.{silent, happens, ticked_devices, line_of, accepted, read_of, after_read, write_of};
 ghost use Rattle.devices.specs.Time.{ticked_by, quiet_of};
-ghost use Rattle.devices.specs.internal.Parts.{joined};
+ghost use Rattle.devices.specs.internal.Parts.{joined_parts};
 ghost use Rattle.devices.specs.Bus.{BusState, marked_bus, gone_back};
 ghost use Rattle.devices.specs.internal.Bus.{acted_before, past_count};
 
@@ -29,8 +29,8 @@ struct Present {
 impl Present {
     fn happen(&mut self, what: What)
         requires { line_number what < 4 }
-        ensures devices { (es : List Entry) → joined self.new.lines self.new.serial self.new.timer es ≡
-            happens what (joined self.old.lines self.old.serial self.old.timer es) }
+        ensures devices { (es : List Entry) → joined_parts self.new.lines self.new.serial self.new.timer es ≡
+            happens what (joined_parts self.old.lines self.old.serial self.old.timer es) }
         ensures ticks { self.new.ticks ≡ self.old.ticks }
     {
         match what {
@@ -43,8 +43,8 @@ impl Present {
     // Lets these entries act up to the first that is not before cycle `end`, and gives how many have acted.
     fn act_before(&mut self, pending: &[Entry], end: u64) -> usize
         requires { All HasLine pending.now }
-        ensures devices { (es : List Entry) → joined self.new.lines self.new.serial self.new.timer es ≡
-            acted_before end pending.now (joined self.old.lines self.old.serial self.old.timer es) }
+        ensures devices { (es : List Entry) → joined_parts self.new.lines self.new.serial self.new.timer es ≡
+            acted_before end pending.now (joined_parts self.old.lines self.old.serial self.old.timer es) }
         ensures count { result ≡ past_count end pending.now }
         ensures ticks { self.new.ticks ≡ self.old.ticks }
     {
@@ -94,21 +94,23 @@ pub struct BusMark {
 
 impl Model for BusMark {
     ghost use Rattle.std.specs.Prelude.{◌≤◌, ◌^◌, []};
-    ghost use Rattle.devices.specs.internal.Parts.{joined, lines_of, serial_of, timer_of};
+    ghost use Rattle.devices.specs.internal.Parts.{joined_parts, lines_part, serial_part, timer_part};
     ghost use Rattle.devices.specs.Bus.{MarkedBus};
 
     ghost Value = { MarkedBus };
 
-    ghost view = { λ m.
-        record { devices = joined m.present.lines m.present.serial m.present.timer []; ticks = m.present.ticks } };
+    ghost view = { λ m. record {
+      devices = joined_parts m.present.lines m.present.serial m.present.timer [];
+      ticks = m.present.ticks;
+    } };
 
     ghost invariant = { λ m. m.present.ticks ≤ 2 ^ 62 };
 
     ghost inverse = { λ m. record {
       present = record {
-        lines = lines_of m.devices;
-        serial = serial_of m.devices;
-        timer = timer_of m.devices;
+        lines = lines_part m.devices;
+        serial = serial_part m.devices;
+        timer = timer_part m.devices;
         ticks = m.ticks;
       };
     } };
@@ -140,14 +142,14 @@ pub struct Bus {
 
 impl Model for Bus {
     ghost use Rattle.std.specs.Prelude.{◌≤◌, ◌^◌};
-    ghost use Rattle.devices.specs.internal.Parts.{joined};
+    ghost use Rattle.devices.specs.internal.Parts.{joined_parts};
     ghost use Rattle.devices.specs.Bus.{BusState};
     ghost use Rattle.devices.specs.internal.Bus.{IsDue};
 
     ghost Value = { BusState };
 
     ghost view = { λ b. record {
-      devices = joined b.present.lines b.present.serial b.present.timer b.agenda.entries.items;
+      devices = joined_parts b.present.lines b.present.serial b.present.timer b.agenda.entries.items;
       ticks = b.present.ticks;
       moves = b.moves;
     } };

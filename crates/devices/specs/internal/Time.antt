@@ -3,6 +3,6 @@ use Rattle.std.specs.Prelude.{ℕ, zero, suc, ◌-◌}
 use Rattle.devices.specs.Devices.{Devices, counts}
 
 -- what n ticks of the timer leave
-abbrev pub counted_by : ℕ → Devices → Devices
-counted_by zero d = d
-counted_by (suc n) d = counted_by n (counts d)
+abbrev pub after_ticks : ℕ → Devices → Devices
+after_ticks zero d = d
+after_ticks (suc n) d = after_ticks n (counts d)

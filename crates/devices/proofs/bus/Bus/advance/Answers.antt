@@ -1,5 +1,5 @@
 use Rattle.std.proofs.Common.{◌≡◌, ◌≤◌, ◌+◌, ◌∙◌, ap, arith, length}
-use Rattle.devices.specs.internal.Parts.{joined}
+use Rattle.devices.specs.internal.Parts.{joined_parts}
 use Rattle.devices.specs.Time.{ticked_by}
 use Rattle.devices.specs.Bus.{BusState}
 use Rattle.devices.specs.internal.Bus.{IsDue, acted_before, past_count}
@@ -29,6 +29,6 @@ invariant_of-self c =
 pub returns-clause-devices : goal.returns-clause-devices
 returns-clause-devices c =
     c.act_before-acted.ensures.devices c.self.inside.agenda.entries.items
-    ∙ ap (λ p. acted_before (c.self.inside.present.ticks + c.args.n) p (joined c.self.inside.present.lines c.skip.new.self c.skip-2.new.self c.self.inside.agenda.entries.items)) c.pending.ensures.entries
+    ∙ ap (λ p. acted_before (c.self.inside.present.ticks + c.args.n) p (joined_parts c.self.inside.present.lines c.skip.new.self c.skip-2.new.self c.self.inside.agenda.entries.items)) c.pending.ensures.entries
     ∙ advanced c.args.n c.self.inside.present.ticks c.self.inside.agenda.acted c.self.inside.present.lines c.self.inside.present.serial c.skip.new.self c.self.inside.present.timer c.skip-2.new.self c.self.inside.agenda.entries.items c.self.invariant.0 c.skip.ensures.state c.skip-2.ensures.state
     ∙ ap (λ (b : BusState). ticked_by c.args.n b.ticks b.devices) c.self.view_is
