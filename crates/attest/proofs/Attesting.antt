@@ -13,12 +13,12 @@ use Rattle.pc_access.specs.declared.Access.{Access}
 use Rattle.pc_access.specs.declared.Denied.{Denied}
 use Rattle.pc_access.specs.Rights.{first_denied}
 use Rattle.attest.specs.Units.{Attest, Doer, Effect, answer, attest_answer, attest_plan, attested, blocks, each_byte, genuine, in_range, text_reads, unit_effect, unit_plan}
-use Rattle.attest.specs.Accesses.{values_in}
+use Rattle.attest.specs.Accesses.{bytes_read}
 use Rattle.attest.specs.internal.Accesses.{text_in}
 use Rattle.attest.specs.Done.{effect_in, own_of}
 use Rattle.attest.proofs.Checks.{denied-append, or_none}
 use Rattle.attest.proofs.Places.{own_text_allowed, other_text_allowed}
-use Rattle.attest.proofs.Rows.{text_values, values_in-reads}
+use Rattle.attest.proofs.Rows.{text_values, bytes_read-reads}
 use Rattle.attest.proofs.Slices.{length-slice_range}
 
 module _ (who : Doer) (core : List ℕ) where
@@ -75,18 +75,18 @@ module _ (who : Doer) (core : List ℕ) where
           (or_none (option_or d None) ∙ or_none d)
 
       module _ (mem : List ℕ) (size : length mem ≡ 65536) (own_ok : IsSection own.text) (other_ok : IsSection other.text) (e : in_range at (at + 16) ≡ true) (fits : at + 16 ≤ 65536) where
-        values_are : values_in mem accesses ≡ slice_range mem at (at + 16) ++ (text_in mem other ++ text_in mem own)
+        values_are : bytes_read mem accesses ≡ slice_range mem at (at + 16) ++ (text_in mem other ++ text_in mem own)
         values_are =
             let inside : at + 16 ≤ length mem = omega arith in
-            ap (values_in mem) (append_assoc (each_byte Read at 16) (text_reads other) (text_reads own))
-            ∙ values_in-reads mem at 16 (text_reads other ++ text_reads own) inside
+            ap (bytes_read mem) (append_assoc (each_byte Read at 16) (text_reads other) (text_reads own))
+            ∙ bytes_read-reads mem at 16 (text_reads other ++ text_reads own) inside
             ∙ ap (λ vs. slice_range mem at (at + 16) ++ vs) (text_values mem size other (text_reads own) other_ok
-            ∙ ap (λ vs. text_in mem other ++ vs) (ap (values_in mem) (sym (append-nil (text_reads own))) ∙ text_values mem size own [] own_ok ∙ append-nil (text_in mem own)))
+            ∙ ap (λ vs. text_in mem other ++ vs) (ap (bytes_read mem) (sym (append-nil (text_reads own))) ∙ text_values mem size own [] own_ok ∙ append-nil (text_in mem own)))
 
         abbrev expected : List ℕ
         expected = slice_range mem at (at + 16)
 
-        genuine_is : genuine who.key own other (values_in mem accesses)
+        genuine_is : genuine who.key own other (bytes_read mem accesses)
             ≡ bytes_eq expected (tag_of who.key own (text_in mem own) (identity other (text_in mem other)))
         genuine_is =
             let n = size_of other.text in
@@ -106,7 +106,7 @@ module _ (who : Doer) (core : List ℕ) where
             id ≡ (if bytes_eq expected (tag_of who.key own (text_in mem own) (identity other (text_in mem other))) then other.id else 0) →
             effect_in who Attest core mem ≡ answer core id (6 + 64 * blocks (size_of other.text + 8))
         effect_whole id id_is =
-            effect_by (values_in mem (unit_plan who Attest core)) true e
-            ∙ ap (λ plan. whole (values_in mem plan)) (plan_by true e)
+            effect_by (bytes_read mem (unit_plan who Attest core)) true e
+            ∙ ap (λ plan. whole (bytes_read mem plan)) (plan_by true e)
             ∙ ap (λ (b : Bool). answer core (if b then other.id else 0) (6 + 64 * blocks (size_of other.text + 8))) genuine_is
             ∙ ap (λ v. answer core v (6 + 64 * blocks (size_of other.text + 8))) (sym id_is)

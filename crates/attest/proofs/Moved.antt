@@ -4,7 +4,7 @@ use Rattle.sm_words.specs.Words.{reg, put, add16}
 use Rattle.mod_layout.specs.declared.Module.{Module}
 use Rattle.mod_layout.specs.Table.{takes}
 use Rattle.attest.specs.Units.{UnitName, Unprotect, Protect, Attest, Tag, Doer, Effect, attest_answer, attested, new_ram, new_text, next, tag_answer, unit_effect, unprotected}
-use Rattle.attest.specs.Done.{standing}
+use Rattle.attest.specs.Done.{with_old_pc}
 
 -- what holds of the core with PC moved on, and of that with any answer in R15, holds of what it leaves
 module _ (core : List ℕ) (P : List ℕ → Type 0) (answers : (v : ℕ) → P (put (next core) 15 v)) (goes_on : P (next core)) where
@@ -35,19 +35,19 @@ module _ (core : List ℕ) (P : List ℕ → Type 0) (answers : (v : ℕ) → P 
 module _ (core : List ℕ) where
   -- a core of an effect, as it is once the call left PC and PC was then moved on
   abbrev Moves : List ℕ → Type 0
-  Moves after = put (standing core after) 0 (add16 (reg core 0) 2) ≡ after
+  Moves after = put (with_old_pc core after) 0 (add16 (reg core 0) 2) ≡ after
 
   moves_answer : (v : ℕ) → Moves (put (next core) 15 v)
   moves_answer v = by core v
     where
-      by : (c : List ℕ) (v : ℕ) → put (standing c (put (next c) 15 v)) 0 (add16 (reg c 0) 2) ≡ put (next c) 15 v
+      by : (c : List ℕ) (v : ℕ) → put (with_old_pc c (put (next c) 15 v)) 0 (add16 (reg c 0) 2) ≡ put (next c) 15 v
       by [] v = refl
       by (pc ∷ rest) v = refl
 
   moves_next : Moves (next core)
   moves_next = by core
     where
-      by : (c : List ℕ) → put (standing c (next c)) 0 (add16 (reg c 0) 2) ≡ next c
+      by : (c : List ℕ) → put (with_old_pc c (next c)) 0 (add16 (reg c 0) 2) ≡ next c
       by [] = refl
       by (pc ∷ rest) = refl
 

@@ -8,9 +8,9 @@ use Rattle.pc_access.specs.declared.Access.{Access}
 use Rattle.pc_access.specs.Rights.{first_denied}
 use Rattle.attest.specs.declared.UnitDone.{UnitDone}
 use Rattle.attest.specs.Units.{Protect, Doer, Effect, answer, blocks, each_byte, new_ram, new_text, table_by, unit_effect, unit_plan}
-use Rattle.attest.specs.Accesses.{stored_in, values_in, writes_of}
+use Rattle.attest.specs.Accesses.{memory_after, bytes_read, writes_of}
 use Rattle.attest.specs.Done.{IsDone, effect_in, made_by}
-use Rattle.attest.proofs.Cores.{standing-answer}
+use Rattle.attest.proofs.Cores.{with_old_pc-answer}
 use Rattle.attest.proofs.Finished.{done_by}
 use Rattle.attest.proofs.Places.{ram_allowed}
 use Rattle.attest.proofs.Rows.{writes_of-writes}
@@ -49,15 +49,15 @@ module _ (who : Doer) (core : List ℕ) where
 
   pub protected : (mem core' mem' : List ℕ) (table' : Table) (done : UnitDone) → takes who.table (new_text core) (new_ram core) ≡ true →
       core' ≡ put core 15 (who.table.given + 1) →
-      mem' ≡ stored_in mem clearing (replicate (size_of (new_ram core)) 0) →
+      mem' ≡ memory_after mem clearing (replicate (size_of (new_ram core)) 0) →
       table' ≡ with_module who.table (reg core 11) (new_text core) (new_ram core) →
       done ≡ record { cycles = 6 + 64 * (blocks 2 + blocks (size_of (new_text core) + 8)); closing = false; made = who.table.given + 1 } →
       IsDone who Protect core mem core' mem' table' done
   protected mem core' mem' table' done e core_is mem_is table_is done_is =
-      let f : whole ≡ effect_in who Protect core mem = sym (effect_by (values_in mem (unit_plan who Protect core)) true e) in
+      let f : whole ≡ effect_in who Protect core mem = sym (effect_by (bytes_read mem (unit_plan who Protect core)) true e) in
       let writes : clearing ≡ writes_of (unit_plan who Protect core) =
       sym (ap writes_of (plan_by true e ∙ sym (append-nil clearing)) ∙ writes_of-writes (reg core 14) (size_of (new_ram core)) [] ∙ append-nil clearing) in
-      done_by who Protect core mem whole core' mem' table' done f (core_is ∙ standing-answer core (who.table.given + 1))
-      (mem_is ∙ ap (λ xs. stored_in mem xs (replicate (size_of (new_ram core)) 0)) writes)
+      done_by who Protect core mem whole core' mem' table' done f (core_is ∙ with_old_pc-answer core (who.table.given + 1))
+      (mem_is ∙ ap (λ xs. memory_after mem xs (replicate (size_of (new_ram core)) 0)) writes)
       (table_is ∙ sym (table_is_by true e)) (λ k. zeros (size_of (new_ram core)) k)
       (done_is ∙ ap (λ n. let d : UnitDone = record { cycles = whole.cycles; closing = false; made = n } in d) (sym (made_is_by true e)))

@@ -12,14 +12,14 @@ use Rattle.pc_access.specs.declared.Access.{Access}
 use Rattle.pc_access.specs.Rights.{first_denied}
 use Rattle.attest.specs.declared.UnitDone.{UnitDone}
 use Rattle.attest.specs.Units.{Tag, Doer, Effect, answer, blocks, each_byte, in_range, tag_answer, tag_plan, text_reads, unit_effect, unit_plan}
-use Rattle.attest.specs.Accesses.{stored_in, values_in, writes_of}
+use Rattle.attest.specs.Accesses.{memory_after, bytes_read, writes_of}
 use Rattle.attest.specs.internal.Accesses.{text_in}
 use Rattle.attest.specs.Done.{IsDone, effect_in, own_of}
 use Rattle.attest.proofs.Checks.{denied-append, or_none}
-use Rattle.attest.proofs.Cores.{standing-answer}
+use Rattle.attest.proofs.Cores.{with_old_pc-answer}
 use Rattle.attest.proofs.Finished.{done_by}
 use Rattle.attest.proofs.Places.{own_text_allowed}
-use Rattle.attest.proofs.Rows.{text_values, values_in-reads, values_in-writes, writes_of-reads, writes_of-writes}
+use Rattle.attest.proofs.Rows.{text_values, bytes_read-reads, bytes_read-writes, writes_of-reads, writes_of-writes}
 use Rattle.attest.proofs.Slices.{length-slice_range}
 
 module _ (who : Doer) (core : List ℕ) where
@@ -74,15 +74,15 @@ module _ (who : Doer) (core : List ℕ) where
         ∙ denied-append t active held bytes tag
 
     module _ (mem : List ℕ) (size : length mem ≡ 65536) (own_ok : IsSection own.text) (e : in_ranges ≡ true) (order : from ≤ to) (fits : to ≤ 65536) where
-      values_are : values_in mem accesses ≡ slice_range mem from to ++ text_in mem own
+      values_are : bytes_read mem accesses ≡ slice_range mem from to ++ text_in mem own
       values_are =
           let inside : from + (to - from) ≤ length mem = omega arith in
           let end : from + (to - from) ≡ to = omega arith in
-          ap (values_in mem) (append_assoc (each_byte Read from (to - from)) (each_byte Write out 16) (text_reads own))
-          ∙ values_in-reads mem from (to - from) (each_byte Write out 16 ++ text_reads own) inside
-          ∙ ap (λ n. slice_range mem from n ++ values_in mem (each_byte Write out 16 ++ text_reads own)) end
-          ∙ ap (λ vs. slice_range mem from to ++ vs) (values_in-writes mem out 16 (text_reads own)
-          ∙ ap (values_in mem) (sym (append-nil (text_reads own))) ∙ text_values mem size own [] own_ok ∙ append-nil (text_in mem own))
+          ap (bytes_read mem) (append_assoc (each_byte Read from (to - from)) (each_byte Write out 16) (text_reads own))
+          ∙ bytes_read-reads mem from (to - from) (each_byte Write out 16 ++ text_reads own) inside
+          ∙ ap (λ n. slice_range mem from n ++ bytes_read mem (each_byte Write out 16 ++ text_reads own)) end
+          ∙ ap (λ vs. slice_range mem from to ++ vs) (bytes_read-writes mem out 16 (text_reads own)
+          ∙ ap (bytes_read mem) (sym (append-nil (text_reads own))) ∙ text_values mem size own [] own_ok ∙ append-nil (text_in mem own))
 
       writes_are : writes_of (unit_plan who Tag core) ≡ each_byte Write out 16
       writes_are =
@@ -101,16 +101,16 @@ module _ (who : Doer) (core : List ℕ) where
           let n = to - from in
           let long : length (slice_range mem from to) ≡ n = length-slice_range mem from to order (omega arith) in
           let with_tag : List ℕ → Effect = λ stored. record (answer core 1 (6 + 64 * blocks n)) { stored = stored } in
-          effect_by (values_in mem (unit_plan who Tag core)) true e
-          ∙ ap (λ plan. whole (values_in mem plan)) (plan_by true e)
+          effect_by (bytes_read mem (unit_plan who Tag core)) true e
+          ∙ ap (λ plan. whole (bytes_read mem plan)) (plan_by true e)
           ∙ ap whole values_are
           ∙ ap (λ vs. with_tag (tag_of who.key own vs (take n (slice_range mem from to ++ text_in mem own)))) (drop_at (slice_range mem from to) (text_in mem own) n long)
           ∙ ap (λ vs. with_tag (tag_of who.key own (text_in mem own) vs)) (take_at (slice_range mem from to) (text_in mem own) n long)
 
-      pub tagged : (core' mem' : List ℕ) (table' : Table) (done : UnitDone) → core' ≡ put core 15 1 → mem' ≡ stored_in mem (each_byte Write out 16) tag →
+      pub tagged : (core' mem' : List ℕ) (table' : Table) (done : UnitDone) → core' ≡ put core 15 1 → mem' ≡ memory_after mem (each_byte Write out 16) tag →
           table' ≡ who.table → done ≡ record { cycles = 6 + 64 * blocks (to - from); closing = false; made = 0 } →
           ((k : ℕ) → slice_index tag k < 256) → IsDone who Tag core mem core' mem' table' done
       tagged core' mem' table' done core_is mem_is table_is done_is bytes =
           done_by who Tag core mem (record (answer core 1 (6 + 64 * blocks (to - from))) { stored = tag }) core' mem' table' done (sym effect_whole)
-          (core_is ∙ standing-answer core 1)
-          (mem_is ∙ ap (λ xs. stored_in mem xs tag) (sym writes_are)) table_is bytes done_is
+          (core_is ∙ with_old_pc-answer core 1)
+          (mem_is ∙ ap (λ xs. memory_after mem xs tag) (sym writes_are)) table_is bytes done_is

@@ -3,7 +3,7 @@
 ghost use Rattle.std.specs.Prelude.{◌≡◌, ◌+◌, ◌≤◌, length, slice_range, bytes_eq};
 ghost use Rattle.pc_access.specs.declared.Kind.TheVariants.{Write};
 ghost use Rattle.attest.specs.Units.{each_byte};
-ghost use Rattle.attest.specs.Accesses.{stored_in};
+ghost use Rattle.attest.specs.Accesses.{memory_after};
 ghost use Rattle.mem_map.specs.Contents.{SameMarks};
 
 use mem_map::Memory;
@@ -25,7 +25,7 @@ pub fn stands_at(memory: &Memory, addr: u16, tag: &[u8; 16]) -> bool
 /// Writes these 16 bytes from `addr` on.
 pub fn store(memory: &mut Memory, addr: u16, tag: &[u8; 16])
     requires { addr + 16 ≤ 65536 }
-    ensures stored { memory.new.bytes ≡ stored_in memory.old.bytes (each_byte Write addr 16) tag.now }
+    ensures stored { memory.new.bytes ≡ memory_after memory.old.bytes (each_byte Write addr 16) tag.now }
     ensures marks { SameMarks memory.old memory.new }
 {
     for i in 0..16 {

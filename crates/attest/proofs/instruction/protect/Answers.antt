@@ -10,10 +10,10 @@ use Rattle.pc_access.specs.declared.Kind.TheVariants.{Write}
 use Rattle.attest.specs.declared.UnitDone.{UnitDone}
 use Rattle.attest.specs.Units.{blocks, each_byte, new_ram, new_text}
 use Rattle.attest.specs.Done.{doer}
-use Rattle.attest.specs.Accesses.{stored_in}
+use Rattle.attest.specs.Accesses.{memory_after}
 use Rattle.attest.proofs.Protecting.{plan_by, effect_by, table_is_by, made_is_by, allowed_by, protected}
 use Rattle.attest.proofs.Finished.{answered}
-use Rattle.attest.proofs.Rows.{stored_in-zeros}
+use Rattle.attest.proofs.Rows.{memory_after-zeros}
 use Rattle.attest.proofs.instruction.protect.Goals as goal
 
 abbrev finished : ℕ → Bool → ℕ → UnitDone
@@ -56,9 +56,9 @@ returns-in-Ok-clause-done c = λ key.
     ∙ ap (λ v. with_module t v c.new_text-text.result c.new_ram-ram.result) c.get.ensures.word
     ∙ ap (λ x. with_module t (reg core 11) x c.new_ram-ram.result) c.new_text-text.ensures
     ∙ ap (with_module t (reg core 11) (new_text core)) c.new_ram-ram.ensures in
-    let clearing : c.clear.new.self.bytes ≡ stored_in c.args.memory.now.bytes (each_byte Write (reg core 14) (size_of (new_ram core))) (replicate (size_of (new_ram core)) 0) =
+    let clearing : c.clear.new.self.bytes ≡ memory_after c.args.memory.now.bytes (each_byte Write (reg core 14) (size_of (new_ram core))) (replicate (size_of (new_ram core)) 0) =
     ap (λ (m : Contents). m.bytes) c.clear.ensures.cleared ∙ ap (λ (r : Section). cleared r.start (size_of r) c.args.memory.now.bytes) c.new_ram-ram.ensures
-    ∙ sym (stored_in-zeros (reg core 14) (size_of (new_ram core)) c.args.memory.now.bytes) in
+    ∙ sym (memory_after-zeros (reg core 14) (size_of (new_ram core)) c.args.memory.now.bytes) in
     protected (doer t c.args.who key) core _ _ _ _ _ taken
     (c.answer-done.ensures.core ∙ ap (put core 15) c.in-Ok.ensures.id) clearing after
     (ap (λ (d : UnitDone). finished d.cycles d.closing c.in-Ok.id) c.answer-done.ensures.done

@@ -9,7 +9,7 @@ use Rattle.pc_access.specs.declared.Kind.TheVariants.{Read, Write}
 use Rattle.attest.specs.declared.UnitDone.{UnitDone}
 use Rattle.attest.specs.Units.{blocks, each_byte, in_range}
 use Rattle.attest.specs.Done.{doer}
-use Rattle.attest.specs.Accesses.{stored_in}
+use Rattle.attest.specs.Accesses.{memory_after}
 use Rattle.attest.specs.internal.Accesses.{text_in}
 use Rattle.attest.proofs.Tagging.{plan_outside, effect_outside, plan_by, effect_by, denied_by, tagged}
 use Rattle.attest.proofs.Finished.{answered}
@@ -108,10 +108,10 @@ returns-clause-done c =
     c.message_tag-tag.ensures.tag
     ∙ ap (λ a. tag_of who.key own (text_in mem own) (slice_range mem a c.get-end.result)) c.get-start.ensures.word
     ∙ ap (λ b. tag_of who.key own (text_in mem own) (slice_range mem (reg core 12) b)) c.get-end.ensures.word in
-    let stored : c.store.new.memory.bytes ≡ stored_in mem (each_byte Write (reg core 14) 16) (tag_of who.key own (text_in mem own) (slice_range mem (reg core 12) (reg core 13))) =
+    let stored : c.store.new.memory.bytes ≡ memory_after mem (each_byte Write (reg core 14) 16) (tag_of who.key own (text_in mem own) (slice_range mem (reg core 12) (reg core 13))) =
     c.store.ensures.stored
-    ∙ ap (λ a. stored_in mem (each_byte Write a 16) c.message_tag-tag.result) c.get-output.ensures.word
-    ∙ ap (stored_in mem (each_byte Write (reg core 14) 16)) tag_is in
+    ∙ ap (λ a. memory_after mem (each_byte Write a 16) c.message_tag-tag.result) c.get-output.ensures.word
+    ∙ ap (memory_after mem (each_byte Write (reg core 14) 16)) tag_is in
     let cycles : 6 + 64 * c.hmac_blocks.result ≡ 6 + 64 * blocks (reg core 13 - reg core 12) =
     ap (λ n. 6 + 64 * n) (c.hmac_blocks.ensures ∙ ap blocks (c.from.ensures
     ∙ ap (λ b. b - c.get-start.result) c.get-end.ensures.word ∙ ap (λ a. reg core 13 - a) c.get-start.ensures.word)) in
