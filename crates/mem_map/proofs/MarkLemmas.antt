@@ -7,7 +7,7 @@ use Rattle.std.proofs.lemmas.List.Elements.{All-nil, All-head, All-tail, All-con
 use Rattle.std.proofs.Math.Seq.{take-append_seam, take-suc, drop-cons}
 use Rattle.std.proofs.lemmas.List.Folds.{sum_by-replicate}
 use Rattle.std.proofs.lemmas.List.Sums.{sum_by-set, sum_by-cons, count_by-le-length}
-use Rattle.page_pool.specs.Tables.{table_of, bytes_of, zeros, IsLive, IsUnused}
+use Rattle.page_pool.specs.Tables.{table_of, table_bytes, zeros, IsLive, IsUnused}
 use Rattle.mem_map.specs.Contents.{Contents}
 use Rattle.mem_map.specs.internal.Marks.{contents_of, IsMarked}
 
@@ -32,15 +32,15 @@ live_set tables t o h = sum_by-set (λ (table : Option (List ℕ)). cond {A = �
 live_other : (tables : Tables) (t u : ℕ) (o : Option (List ℕ)) → u ≢ t → IsLive tables u → IsLive (set tables t o) u
 live_other tables t u o n l = subst (λ (x : Option (List ℕ)). IsSome x) (sym (get_or-set_other tables t u o None n)) l
 
-bytes_other : (tables : Tables) (t u : ℕ) (o : Option (List ℕ)) → u ≢ t → bytes_of (set tables t o) u ≡ bytes_of tables u
+bytes_other : (tables : Tables) (t u : ℕ) (o : Option (List ℕ)) → u ≢ t → table_bytes (set tables t o) u ≡ table_bytes tables u
 bytes_other tables t u o n = ap (λ (x : Option (List ℕ)). unwrap_or x []) (get_or-set_other tables t u o None n)
 
-bytes_same : (tables : Tables) (t : ℕ) (o : Option (List ℕ)) → t < length tables → bytes_of (set tables t o) t ≡ unwrap_or o []
+bytes_same : (tables : Tables) (t : ℕ) (o : Option (List ℕ)) → t < length tables → table_bytes (set tables t o) t ≡ unwrap_or o []
 bytes_same tables t o h = ap (λ (x : Option (List ℕ)). unwrap_or x []) (get_or-set_same tables t o None h)
 
 -- tables apart from the one that is set keep their bytes
 map_other : (tables : Tables) (t : ℕ) (o : Option (List ℕ)) (marks : List ℕ) → All (λ mark. mark ≢ t) marks
-    → map (bytes_of (set tables t o)) marks ≡ map (bytes_of tables) marks
+    → map (table_bytes (set tables t o)) marks ≡ map (table_bytes tables) marks
 map_other tables t o [] h = refl
 map_other tables t o (m ∷ ms) h =
     rw (bytes_other tables t m o (All-head (λ mark. mark ≢ t) m ms h), map_other tables t o ms (All-tail (λ mark. mark ≢ t) m ms h)) refl
@@ -141,7 +141,7 @@ room_left tables present marks room u k n =
 pub marked_length : (tables : Tables) (present : ℕ) (marks : List ℕ) (room : ℕ) (before : Contents)
     → contents_of tables present marks room ≡ before → (length marks ≡ length before.marked) × (room ≡ before.room)
 marked_length tables present marks room before e =
-    (sym (length-map marks (bytes_of tables)) ∙ ap (λ (a : Contents). length a.marked) e, ap (λ (a : Contents). a.room) e)
+    (sym (length-map marks (table_bytes tables)) ∙ ap (λ (a : Contents). length a.marked) e, ap (λ (a : Contents). a.room) e)
 
 pub mark_marked : (tables : Tables) (present : ℕ) (marks : List ℕ) (room u : ℕ)
     → IsMarked tables present marks room → IsUnused tables u
@@ -178,7 +178,7 @@ mark_shown tables present marks room u before k n e =
     let away = marks_away tables u marks n k.all_live in
     let apart : present ≢ u = live_apart tables present u k.live n in
     let o = table_of tables present in
-    rw (← e, map-append (bytes_of (set tables u o)) marks (u ∷ []), map_other tables u o marks away, bytes_same tables u o n.there, bytes_other tables u present o apart) refl
+    rw (← e, map-append (table_bytes (set tables u o)) marks (u ∷ []), map_other tables u o marks away, bytes_same tables u o n.there, bytes_other tables u present o apart) refl
 
 -- ---- the newest mark is dropped
 
@@ -217,10 +217,10 @@ drop_shown tables present marks front room mark before k e s =
     let same : (i : ℕ) → i < length front → get_or marks i 0 ≡ get_or front i 0 = λ i h. ap (λ (ms : List ℕ). get_or ms i 0) e ∙ get_or_append_left front (mark ∷ []) 0 i h in
     let apart_mark : mark ≢ present = subst (λ (x : ℕ). x ≢ present) last (All-get_or (λ m. m ≢ present) marks (length front) 0 (omega arith) k.apart) in
     let away : All (λ m. m ≢ mark) front = All-from_get_or (λ m. m ≢ mark) front 0 (λ i l q. k.once i (length front) l (omega arith) (same i l ∙ q ∙ sym last)) in
-    let marked : map (bytes_of tables) marks ≡ map (bytes_of tables) front ++ bytes_of tables mark ∷ [] = ap (map (bytes_of tables)) e ∙ map-append (bytes_of tables) front (mark ∷ []) in
-    let size : length (map (bytes_of tables) marks) - 1 ≡ length (map (bytes_of tables) front) = (let a = length-map marks (bytes_of tables) in let b = length-map front (bytes_of tables) in omega arith) in
-    let cut : take (length (map (bytes_of tables) marks) - 1) (map (bytes_of tables) marks) ≡ map (bytes_of tables) front =
-    ap (λ (i : ℕ). take i (map (bytes_of tables) marks)) size ∙ ap (take (length (map (bytes_of tables) front))) marked ∙ take-append_seam (map (bytes_of tables) front) (bytes_of tables mark ∷ []) in
+    let marked : map (table_bytes tables) marks ≡ map (table_bytes tables) front ++ table_bytes tables mark ∷ [] = ap (map (table_bytes tables)) e ∙ map-append (table_bytes tables) front (mark ∷ []) in
+    let size : length (map (table_bytes tables) marks) - 1 ≡ length (map (table_bytes tables) front) = (let a = length-map marks (table_bytes tables) in let b = length-map front (table_bytes tables) in omega arith) in
+    let cut : take (length (map (table_bytes tables) marks) - 1) (map (table_bytes tables) marks) ≡ map (table_bytes tables) front =
+    ap (λ (i : ℕ). take i (map (table_bytes tables) marks)) size ∙ ap (take (length (map (table_bytes tables) front))) marked ∙ take-append_seam (map (table_bytes tables) front) (table_bytes tables mark ∷ []) in
     rw (← s, cut, bytes_other tables mark present None (λ q. apart_mark (sym q)), map_other tables mark None front away) refl
 
 -- ---- the bytes of a mark become the present ones
@@ -275,8 +275,8 @@ load_shown tables present marks room k mark u before m h e n s =
     let live_first = all_live_other tables present None marks m.apart m.all_live in
     let away = marks_away first u marks n live_first in
     let apart : mark ≢ present = rw e (All-get_or (λ x. x ≢ present) marks k 0 h m.apart) in
-    let there : bytes_of first mark ≡ get_or (map (bytes_of tables) marks) k [] =
-    bytes_other tables present mark None apart ∙ ap (bytes_of tables) e ∙ sym (get_or-map (bytes_of tables) marks k 0 [] h) in
+    let there : table_bytes first mark ≡ get_or (map (table_bytes tables) marks) k [] =
+    bytes_other tables present mark None apart ∙ ap (table_bytes tables) e ∙ sym (get_or-map (table_bytes tables) marks k 0 [] h) in
     rw (← s, bytes_same first u o n.there, map_other first u o marks away, map_other tables present None marks m.apart, there) refl
 
 -- ---- contents by their parts
@@ -339,16 +339,16 @@ zeros_long n = length-replicate n 0
 pub filled_more : (pool after : Tables) (bytes : List ℕ) (tables i byte addr : ℕ)
     → length bytes ≡ 65536 → i < length bytes → 1 ≤ tables → byte ≡ get_or bytes i byte → addr ≡ i
     → pool ≡ set (replicate tables None) 0 (Some (take i bytes ++ drop i (zeros 65536)))
-    → after ≡ set pool 0 (Some (set (bytes_of pool 0) addr byte))
+    → after ≡ set pool 0 (Some (set (table_bytes pool 0) addr byte))
     → after ≡ set (replicate tables None) 0 (Some (take (i + 1) bytes ++ drop (i + 1) (zeros 65536)))
 filled_more pool after bytes tables i byte addr size h least e a p q =
     let start = zeros 65536 in
     let none : Tables = replicate tables None in
     let there : 0 < length none = rw (length-replicate {A = Option (List ℕ)} tables None) least in
-    let shown : bytes_of pool 0 ≡ take i bytes ++ drop i start = ap (λ (ts : Tables). bytes_of ts 0) p ∙ bytes_same none 0 (Some (take i bytes ++ drop i start)) there in
+    let shown : table_bytes pool 0 ≡ take i bytes ++ drop i start = ap (λ (ts : Tables). table_bytes ts 0) p ∙ bytes_same none 0 (Some (take i bytes ++ drop i start)) there in
     let next = filled_next bytes start i byte h (zeros_long 65536 ∙ sym size) e in
-    q ∙ ap (λ (ts : Tables). set ts 0 (Some (set (bytes_of pool 0) addr byte))) p
-    ∙ set-set none 0 (Some (take i bytes ++ drop i start)) (Some (set (bytes_of pool 0) addr byte))
+    q ∙ ap (λ (ts : Tables). set ts 0 (Some (set (table_bytes pool 0) addr byte))) p
+    ∙ set-set none 0 (Some (take i bytes ++ drop i start)) (Some (set (table_bytes pool 0) addr byte))
     ∙ ap (λ (bs : List ℕ). set none 0 (Some (set bs addr byte))) shown
     ∙ ap (λ (k : ℕ). set none 0 (Some (set (take i bytes ++ drop i start) k byte))) a
     ∙ ap (λ (bs : List ℕ). set none 0 (Some bs)) next

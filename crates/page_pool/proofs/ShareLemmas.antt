@@ -8,7 +8,7 @@ use Rattle.std.proofs.lemmas.Bool.{cond-true, cond-false}
 use Rattle.page_pool.specs.declared.store.Table.{Table}
 use Rattle.page_pool.specs.internal.Counts.{times_in, IsFree}
 use Rattle.page_pool.specs.Tables.{table_of}
-use Rattle.page_pool.specs.internal.Naming.{names_of, bytes_at, table_at, tables_at, IsCounted, no_table, place_of, IsLiveIn, IsUnusedIn}
+use Rattle.page_pool.specs.internal.Naming.{names_of, bytes_at, table_at, tables_at, IsCounted, no_table, page_place, IsLiveIn, IsUnusedIn}
 use Rattle.page_pool.proofs.TableLemmas.{names_in, live_names, live_bytes}
 use Rattle.page_pool.proofs.StoreLemmas.{places_long, place_inside, place_counted, live_table}
 
@@ -120,7 +120,7 @@ names_enough pages counts tables free spare t u k l e =
     rw (get_or_read tables t u l.there e no_table)
     (All-from_get_or (λ place. times_in place (get_or tables t no_table).places ≤ get_or counts place 0) (get_or tables t no_table).places 0
     (λ n h.
-    let page = place_of tables t n in
+    let page = page_place tables t n in
     let long = places_long pages counts tables free spare t k l in
     let inside = place_inside pages counts tables free spare t n k l (omega arith) in
     let a = k.counted page inside in

@@ -5,8 +5,8 @@ use Rattle.std.proofs.lemmas.List.{length-set, get_or-set_same, get_or-map, get_
 use Rattle.std.proofs.lemmas.List.Elements.{All-get_or, All-set}
 use Rattle.std.proofs.lemmas.List.Sums.{get_or-le-sum_by}
 use Rattle.page_pool.specs.declared.store.Table.{Table}
-use Rattle.page_pool.specs.internal.Naming.{names_of, bytes_at, table_at, tables_at, IsCounted, no_table, place_of, IsLiveIn}
-use Rattle.page_pool.specs.Tables.{bytes_of}
+use Rattle.page_pool.specs.internal.Naming.{names_of, bytes_at, table_at, tables_at, IsCounted, no_table, page_place, IsLiveIn}
+use Rattle.page_pool.specs.Tables.{table_bytes}
 use Rattle.page_pool.proofs.TableLemmas.{names_in, named_in, live_bytes, tables_at-set_named}
 use Rattle.page_pool.proofs.CopyLemmas.{spare_some, copy_counted, copy_same}
 
@@ -15,7 +15,7 @@ pub places_long : (pages : List (List ℕ)) (counts : List ℕ) (tables : List T
 places_long pages counts tables free spare t k l = All-get_or (λ w. length w.places ≡ 256) tables t no_table l.there k.whole_tables
 
 pub place_inside : (pages : List (List ℕ)) (counts : List ℕ) (tables : List Table) (free : List ℕ) (spare t n : ℕ)
-    → IsCounted pages counts tables free spare → IsLiveIn tables t → n < 256 → place_of tables t n < length pages
+    → IsCounted pages counts tables free spare → IsLiveIn tables t → n < 256 → page_place tables t n < length pages
 place_inside pages counts tables free spare t n k l small =
     let u = get_or tables t no_table in
     let places = places_long pages counts tables free spare t k l in
@@ -23,10 +23,10 @@ place_inside pages counts tables free spare t n k l small =
     All-get_or (λ place. place < length pages) u.places n 0 (omega arith) inside_u
 
 pub place_counted : (pages : List (List ℕ)) (counts : List ℕ) (tables : List Table) (free : List ℕ) (spare t n : ℕ)
-    → IsCounted pages counts tables free spare → IsLiveIn tables t → n < 256 → 1 ≤ get_or counts (place_of tables t n) 0
+    → IsCounted pages counts tables free spare → IsLiveIn tables t → n < 256 → 1 ≤ get_or counts (page_place tables t n) 0
 place_counted pages counts tables free spare t n k l small =
     let u = get_or tables t no_table in
-    let page = place_of tables t n in
+    let page = page_place tables t n in
     let places = places_long pages counts tables free spare t k l in
     let inside = place_inside pages counts tables free spare t n k l small in
     let here : 1 ≤ names_in page u = named_in page u n l.live (omega arith) refl in
@@ -35,13 +35,13 @@ place_counted pages counts tables free spare t n k l small =
     omega arith
 
 pub spare_there : (pages : List (List ℕ)) (counts : List ℕ) (tables : List Table) (free : List ℕ) (spare t n : ℕ)
-    → IsCounted pages counts tables free spare → IsLiveIn tables t → n < 256 → get_or counts (place_of tables t n) 0 ≢ 1 → 1 ≤ spare
+    → IsCounted pages counts tables free spare → IsLiveIn tables t → n < 256 → get_or counts (page_place tables t n) 0 ≢ 1 → 1 ≤ spare
 spare_there pages counts tables free spare t n k l small shared =
     let inside = place_inside pages counts tables free spare t n k l small in
     let one = place_counted pages counts tables free spare t n k l small in
     let a = k.counts_length in
     let b = k.pages_length in
-    spare_some pages counts tables free spare (place_of tables t n) k (omega arith) (omega arith)
+    spare_some pages counts tables free spare (page_place tables t n) k (omega arith) (omega arith)
 
 -- ---- a page that one place alone names is written
 
@@ -70,15 +70,15 @@ live_table pages tables t l =
 
 pub page_written : (pages : List (List ℕ)) (counts : List ℕ) (tables : List Table) (free : List ℕ) (spare t n page at byte : ℕ) (bytes : List ℕ) (before : List (Option (List ℕ)))
     → IsCounted pages counts tables free spare → IsLiveIn tables t → n < 256 → at < 256
-    → place_of tables t n ≡ page → get_or counts page 0 ≡ 1 → bytes ≡ get_or pages page bytes → tables_at pages tables ≡ before
-    → tables_at (set pages page (set bytes at byte)) tables ≡ set before t (Some (set (bytes_of before t) (256 * n + at) byte))
+    → page_place tables t n ≡ page → get_or counts page 0 ≡ 1 → bytes ≡ get_or pages page bytes → tables_at pages tables ≡ before
+    → tables_at (set pages page (set bytes at byte)) tables ≡ set before t (Some (set (table_bytes before t) (256 * n + at) byte))
 page_written pages counts tables free spare t n page at byte bytes before k l small in_page names one e same =
     let inside : page < length pages = subst (λ (x : ℕ). x < length pages) names (place_inside pages counts tables free spare t n k l small) in
     let places = places_long pages counts tables free spare t k l in
     let changed = tables_at-set_named pages tables t n page at byte no_table
     record { there = l.there; live = l.live; place = omega arith; names = names; once = sym (k.counted page inside) ∙ one }
     in_page k.named k.whole_pages in
-    let there : bytes_of (tables_at pages tables) t ≡ bytes_at pages (get_or tables t no_table).places = ap (λ (o : Option (List ℕ)). unwrap_or o []) (live_table pages tables t l) in
+    let there : table_bytes (tables_at pages tables) t ≡ bytes_at pages (get_or tables t no_table).places = ap (λ (o : Option (List ℕ)). unwrap_or o []) (live_table pages tables t l) in
     rw (← same, there, get_or_read pages page bytes inside e []) changed
 
 -- ---- a place gets a page of its own
@@ -90,7 +90,7 @@ pub record Copied (pages before : List (List ℕ)) (counts : List ℕ) (tables o
   pub own : get_or counts page 0 ≡ 1
 
 pub page_there : (pages : List (List ℕ)) (counts : List ℕ) (tables : List Table) (free : List ℕ) (spare t n place page : ℕ)
-    → IsCounted pages counts tables free spare → IsLiveIn tables t → n < 256 → get_or counts (place_of tables t n) 0 ≢ 1
+    → IsCounted pages counts tables free spare → IsLiveIn tables t → n < 256 → get_or counts (page_place tables t n) 0 ≢ 1
     → place ≡ get_or free (spare - 1) place → page ≡ place
     → (page < length counts) × (page < length pages)
 page_there pages counts tables free spare t n place page k l small shared e f =
@@ -104,7 +104,7 @@ page_there pages counts tables free spare t n place page k l small shared e f =
 
 pub copied : (pages : List (List ℕ)) (counts : List ℕ) (tables : List Table) (free : List ℕ) (spare t n : ℕ)
     (table u : Table) (shared place page count : ℕ) (x : List ℕ)
-    → IsCounted pages counts tables free spare → IsLiveIn tables t → n < 256 → get_or counts (place_of tables t n) 0 ≢ 1
+    → IsCounted pages counts tables free spare → IsLiveIn tables t → n < 256 → get_or counts (page_place tables t n) 0 ≢ 1
     → table ≡ get_or tables t table → shared ≡ get_or table.places n 0 → place ≡ get_or free (spare - 1) place → page ≡ place
     → x ≡ get_or pages shared x → count ≡ get_or counts shared count → u ≡ get_or tables t u
     → Copied (set pages page x) pages (set (set counts shared (count - 1)) page 1)
@@ -117,18 +117,18 @@ copied pages counts tables free spare t n table u shared place page count x k l 
     let one = place_counted pages counts tables free spare t n k l small in
     let lengths = k.counts_length ∙ sym k.pages_length in
     let a : table ≡ get_or tables t no_table = get_or_read tables t table there e_table no_table in
-    let b : shared ≡ place_of tables t n = e_shared ∙ ap (λ (w : Table). get_or w.places n 0) a in
+    let b : shared ≡ page_place tables t n = e_shared ∙ ap (λ (w : Table). get_or w.places n 0) a in
     let f : place ≡ get_or free (spare - 1) 0 = get_or_read free (spare - 1) place (omega arith) e_place 0 in
     let g : page ≡ get_or free (spare - 1) 0 = e_page ∙ f in
-    let h : x ≡ get_or pages (place_of tables t n) [] = get_or_read pages shared x (omega arith) e_x [] ∙ ap (λ (i : ℕ). get_or pages i []) b in
-    let i : count ≡ get_or counts (place_of tables t n) 0 = get_or_read counts shared count (omega arith) e_count 0 ∙ ap (λ (j : ℕ). get_or counts j 0) b in
+    let h : x ≡ get_or pages (page_place tables t n) [] = get_or_read pages shared x (omega arith) e_x [] ∙ ap (λ (i : ℕ). get_or pages i []) b in
+    let i : count ≡ get_or counts (page_place tables t n) 0 = get_or_read counts shared count (omega arith) e_count 0 ∙ ap (λ (j : ℕ). get_or counts j 0) b in
     let j : u ≡ get_or tables t no_table = get_or_read tables t u there e_u no_table in
-    let counted = copy_counted pages counts tables free spare t n (place_of tables t n) no_table k there l.live small refl (omega arith) in
-    let same = copy_same pages counts tables free spare t n (place_of tables t n) no_table k there l.live small refl (omega arith) in
+    let counted = copy_counted pages counts tables free spare t n (page_place tables t n) no_table k there l.live small refl (omega arith) in
+    let same = copy_same pages counts tables free spare t n (page_place tables t n) no_table k there l.live small refl (omega arith) in
     let fits : get_or free (spare - 1) 0 < length counts = k.spared.inside (spare - 1) (omega arith) in
-    let long = length-set counts (place_of tables t n) (get_or counts (place_of tables t n) 0 - 1) in
+    let long = length-set counts (page_place tables t n) (get_or counts (page_place tables t n) 0 - 1) in
     record {
       counted = rw (b, g, f, h, i, j) counted;
       same = rw (g, f, h, j) same;
-      own = rw (b, g, i) (get_or-set_same (set counts (place_of tables t n) (get_or counts (place_of tables t n) 0 - 1)) (get_or free (spare - 1) 0) 1 0 (omega arith));
+      own = rw (b, g, i) (get_or-set_same (set counts (page_place tables t n) (get_or counts (page_place tables t n) 0 - 1)) (get_or free (spare - 1) 0) 1 0 (omega arith));
     }

@@ -6,8 +6,8 @@ abbrev pub table_of : List (Option (List ℕ)) → ℕ → Option (List ℕ)
 table_of tables t = get_or tables t None
 
 -- the bytes of a live table
-abbrev pub bytes_of : List (Option (List ℕ)) → ℕ → List ℕ
-bytes_of tables t = unwrap_or (table_of tables t) []
+abbrev pub table_bytes : List (Option (List ℕ)) → ℕ → List ℕ
+table_bytes tables t = unwrap_or (table_of tables t) []
 
 abbrev pub IsLive : List (Option (List ℕ)) → ℕ → Type 0
 IsLive tables t = IsSome (table_of tables t)

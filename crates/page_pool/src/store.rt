@@ -31,8 +31,8 @@ pub struct Store {
 
 impl Store {
     ghost use Rattle.std.specs.Prelude.{◌≡◌, ◌≢◌, ◌+◌, ◌*◌, ◌<◌, [], get_or, slice_set, replicate, true, All, Some, None, IfOk, IsNone, IfSome};
-    ghost use Rattle.page_pool.specs.Tables.{bytes_of, table_of, zeros};
-    ghost use Rattle.page_pool.specs.internal.Naming.{tables_of, place_of, IsLiveIn, IsUnusedIn, IsStore};
+    ghost use Rattle.page_pool.specs.Tables.{table_bytes, table_of, zeros};
+    ghost use Rattle.page_pool.specs.internal.Naming.{tables_of, page_place, IsLiveIn, IsUnusedIn, IsStore};
 
     /// A store of so many tables, of which table 0 alone is live. All its bytes are 0, on one page.
     #[tactic(auto, using(crate::proofs::NewLemmas::new_counted, crate::proofs::NewLemmas::new_shown))]
@@ -61,7 +61,7 @@ impl Store {
         requires store { IsStore self.now }
         requires live { IsLiveIn self.now.tables.items t }
         requires place { n < 256 }
-        ensures page { result.now ≡ get_or self.now.pages.items (place_of self.now.tables.items t n) [] }
+        ensures page { result.now ≡ get_or self.now.pages.items (page_place self.now.tables.items t n) [] }
     {
         let place = self.tables[t].places[n];
         &self.pages[usize::from(place)]
@@ -76,7 +76,7 @@ impl Store {
         requires at { at < 256 }
         ensures store { IsStore self.new }
         ensures written { tables_of self.new ≡ slice_set (tables_of self.old) t
-            (Some (slice_set (bytes_of (tables_of self.old) t) (256 * n + at) byte)) }
+            (Some (slice_set (table_bytes (tables_of self.old) t) (256 * n + at) byte)) }
     {
         let own = self.own_page(t, n);
         self.pages[own][at] = byte;
@@ -90,7 +90,7 @@ impl Store {
         ensures store { IsStore self.new }
         ensures same { tables_of self.new ≡ tables_of self.old }
         ensures live { IsLiveIn self.new.tables.items t }
-        ensures place { place_of self.new.tables.items t n ≡ result }
+        ensures place { page_place self.new.tables.items t n ≡ result }
         ensures own { get_or self.new.counts.items result 0 ≡ 1 }
     {
         let page = usize::from(self.tables[t].places[n]);
@@ -105,11 +105,11 @@ impl Store {
         requires store { IsStore self.old }
         requires live { IsLiveIn self.old.tables.items t }
         requires place { n < 256 }
-        requires shared { get_or self.old.counts.items (place_of self.old.tables.items t n) 0 ≢ 1 }
+        requires shared { get_or self.old.counts.items (page_place self.old.tables.items t n) 0 ≢ 1 }
         ensures store { IsStore self.new }
         ensures same { tables_of self.new ≡ tables_of self.old }
         ensures live { IsLiveIn self.new.tables.items t }
-        ensures place { place_of self.new.tables.items t n ≡ result }
+        ensures place { page_place self.new.tables.items t n ≡ result }
         ensures own { get_or self.new.counts.items result 0 ≡ 1 }
     {
         let shared = usize::from(self.tables[t].places[n]);

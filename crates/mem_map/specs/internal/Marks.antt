@@ -1,10 +1,10 @@
 -- How a memory keeps its bytes and those of its marks: one table of a pool each.
 use Rattle.std.specs.Prelude.{◌≡◌, ◌≢◌, ℕ, ◌+◌, ◌<◌, ◌≤◌, List, Option, All, length, get_or, map, count_by, is_some}
-use Rattle.page_pool.specs.Tables.{bytes_of, IsLive}
+use Rattle.page_pool.specs.Tables.{table_bytes, IsLive}
 use Rattle.mem_map.specs.Contents.{Contents}
 
 abbrev pub contents_of : List (Option (List ℕ)) → ℕ → List ℕ → ℕ → Contents
-contents_of tables present marks room = record { bytes = bytes_of tables present; marked = map (bytes_of tables) marks; room = room }
+contents_of tables present marks room = record { bytes = table_bytes tables present; marked = map (table_bytes tables) marks; room = room }
 
 -- the present table and those of the marks differ, and they alone are live
 pub record IsMarked (tables : List (Option (List ℕ))) (present : ℕ) (marks : List ℕ) (room : ℕ) : Type 0 where

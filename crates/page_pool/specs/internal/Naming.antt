@@ -23,8 +23,8 @@ names_of page tables = sum_by (λ t. cond t.is_live (times_in page t.places) 0) 
 abbrev pub no_table : Table
 no_table = record { is_live = false; places = [] }
 
-abbrev pub place_of : List Table → ℕ → ℕ → ℕ
-place_of tables t n = get_or (get_or tables t no_table).places n 0
+abbrev pub page_place : List Table → ℕ → ℕ → ℕ
+page_place tables t n = get_or (get_or tables t no_table).places n 0
 
 -- that table t is there and live
 pub record IsLiveIn (tables : List Table) (t : ℕ) : Type 0 where

@@ -1,6 +1,6 @@
 use Rattle.std.proofs.Common.{◌∙◌, ap}
 use Rattle.std.proofs.Math.ListN.{set}
-use Rattle.page_pool.specs.Tables.{bytes_of}
+use Rattle.page_pool.specs.Tables.{table_bytes}
 use Rattle.mem_map.specs.Contents.{Contents}
 use Rattle.mem_map.specs.internal.Marks.{contents_of}
 use Rattle.mem_map.proofs.MarkLemmas.{Tables, written_shown}
@@ -10,7 +10,7 @@ pub returns : goal.returns
 returns c =
     let m = c.self.inside in
     let now = c.args.self.now in
-    let bytes = set (bytes_of m.pool m.present) c.args.addr c.args.byte in
+    let bytes = set (table_bytes m.pool m.present) c.args.addr c.args.byte in
     record {
       written = ap (λ (tables : Tables). contents_of tables m.present m.marks.items m.room) c.write.ensures.written
           ∙ written_shown m.pool m.present m.marks.items m.room bytes now c.self.invariant c.self.view_is
