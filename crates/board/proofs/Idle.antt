@@ -7,7 +7,7 @@ use Rattle.reg_backup.specs.declared.backup.After.{After}
 use Rattle.reg_backup.specs.declared.backup.Phase.{Phase}
 use Rattle.reg_backup.specs.declared.backup.Phase.TheVariants.{Run, Pad}
 use Rattle.written_machine.specs.Cycle.{after_cycles, pc_of}
-use Rattle.written_machine.specs.Passing.{OnlyPass, Pads, Waits, WaitsOutside, Sleeps, Leads, later, passed}
+use Rattle.written_machine.specs.Passing.{OnlyPass, Pads, Waits, WaitsOutside, Sleeps, Leads, phase_later, passed}
 use Rattle.written_machine.specs.Standing.{is_ready, is_resume, stands_at}
 use Rattle.written_machine.specs.State.{State}
 use Rattle.board.specs.internal.Ran.{Apart}
@@ -57,7 +57,7 @@ module _ (law : (s : State) (n m : ℕ) → s.stop ≡ None → OnlyPass n s →
   moved : (m : ℕ) → 0 < m → m ≤ n → after_cycles s m ≡ passed m s
   moved m some few = sym (law s all m runs only some (omega (arith, few, enough))).state
 
-  busy : (m : ℕ) → m < n → is_ready s.phase ≡ false → ((k : ℕ) → 0 < k → k < n → is_ready (later k s.phase s.after).0 ≡ false) → stands_at addr (after_cycles s m) ≡ false
+  busy : (m : ℕ) → m < n → is_ready s.phase ≡ false → ((k : ℕ) → 0 < k → k < n → is_ready (phase_later k s.phase s.after).0 ≡ false) → stands_at addr (after_cycles s m) ≡ false
   busy zero few now then = busy_apart addr s now
   busy (suc m) few now then =
       ap (stands_at addr) (moved (suc m) (omega arith) (omega (arith, few))) ∙ busy_apart addr (passed (suc m) s) (then (suc m) (omega arith) few)
@@ -65,7 +65,7 @@ module _ (law : (s : State) (n m : ℕ) → s.stop ≡ None → OnlyPass n s →
   waits : (m rest : ℕ) → m < n → s.phase ≡ Run rest → all ≤ rest → stands_at addr (after_cycles s m) ≡ false
   waits m rest few e within =
       busy m few (ap is_ready e ∙ run_busy rest (omega (arith, few, within, enough)))
-      (λ k some less. ap (λ (p : Phase). is_ready (later k p s.after).0) e ∙ run_busy (rest - k) (omega (arith, less, within, enough)))
+      (λ k some less. ap (λ (p : Phase). is_ready (phase_later k p s.after).0) e ∙ run_busy (rest - k) (omega (arith, less, within, enough)))
 
   sleeping : (k : ℕ) → k ≤ n → s.phase ≡ Run 0 → stands_at addr (after_cycles s k) ≡ stands_at addr s
   sleeping zero few e = refl
@@ -73,13 +73,13 @@ module _ (law : (s : State) (n m : ℕ) → s.stop ≡ None → OnlyPass n s →
       let none : 0 - suc k ≡ 0 = omega arith in
       ap (stands_at addr) (moved (suc k) (omega arith) few)
       ∙ alike_apart addr (passed (suc k) s) s refl
-      (ap (λ (p : Phase). (later (suc k) p s.after).0) e ∙ ap Run none ∙ sym e)
-      (ap (λ (p : Phase). (later (suc k) p s.after).1) e) refl
+      (ap (λ (p : Phase). (phase_later (suc k) p s.after).0) e ∙ ap Run none ∙ sym e)
+      (ap (λ (p : Phase). (phase_later (suc k) p s.after).1) e) refl
 
   by_case : OnlyPass all s → (stands_at addr s && stands_at addr (after_cycles s n)) ≡ false → (m : ℕ) → m < n → stands_at addr (after_cycles s m) ≡ false
   by_case (Pads left e within) ends m few =
       busy m few (ap is_ready e)
-      (λ k some less. ap (λ (p : Phase). is_ready (later k p s.after).0) e ∙ padding_busy (left - k) (omega (arith, less, within, enough)))
+      (λ k some less. ap (λ (p : Phase). is_ready (phase_later k p s.after).0) e ∙ padding_busy (left - k) (omega (arith, less, within, enough)))
   by_case (WaitsOutside rest e within none) ends m few = waits m rest few e within
   by_case (Waits rest e within calm) ends m few = waits m rest few e within
   by_case (Sleeps e next none off_is calm) ends m few =

@@ -11,7 +11,7 @@ use Rattle.tracer.specs.declared.Event.{Event}
 use Rattle.written_machine.specs.Cycle.{Step, quiet, cycle, after_cycles}
 use Rattle.written_machine.specs.Passing.{Leads}
 use Rattle.written_machine.specs.State.{State}
-use Rattle.written_machine.specs.Trace.{lines_of, lines_after}
+use Rattle.written_machine.specs.Trace.{event_lines, lines_after}
 use Rattle.written_machine.proofs.Stops.{cycle_by}
 use Rattle.board.specs.declared.Ran.{Ran}
 use Rattle.board.specs.Ran.{lines_now, RanWhole, RanCutOff, Runs}
@@ -54,8 +54,8 @@ pub lines_next : (n : ℕ) (s : State) (lines : List ℕ) → lines ≡ lines_no
 lines_next n s lines e = ap (λ (l : List ℕ). lines_after s n ++ l) e ∙ sym (lines_more n s)
 
 -- the lines of a cycle, by its number and its events
-pub lines_are : (s t : State) (number : ℕ) (events : List Event) → number ≡ s.cycle → events ≡ (cycle s).events → s ≡ t → lines_of number events ≡ lines_now t
-lines_are s t number events at are same = ap (λ (k : ℕ). lines_of k events) at ∙ ap (lines_of s.cycle) are ∙ ap lines_now same
+pub lines_are : (s t : State) (number : ℕ) (events : List Event) → number ≡ s.cycle → events ≡ (cycle s).events → s ≡ t → event_lines number events ≡ lines_now t
+lines_are s t number events at are same = ap (λ (k : ℕ). event_lines k events) at ∙ ap (event_lines s.cycle) are ∙ ap lines_now same
 
 -- a stopped machine stays as it is, without a line
 pub stays : (s : State) (stop : Stop) → s.stop ≡ Some stop → cycle s ≡ quiet s
@@ -69,7 +69,7 @@ stopped_lines : (m : ℕ) (s : State) (stop : Stop) → s.stop ≡ Some stop →
 stopped_lines zero s stop e = refl
 stopped_lines (suc m) s stop e =
     ap (λ (t : State). lines_after s m ++ lines_now t) (stopped_state m s stop e)
-    ∙ ap (λ (t : Step). lines_after s m ++ lines_of s.cycle t.events) (stays s stop e)
+    ∙ ap (λ (t : Step). lines_after s m ++ event_lines s.cycle t.events) (stays s stop e)
     ∙ append-nil (lines_after s m)
     ∙ stopped_lines m s stop e
 
@@ -96,7 +96,7 @@ ended_runs taken faults sure n old new before after r whole e = subst (λ x. Run
     by (Some stop) is = (whole, is)
 
 -- the lines of events, one after another
-pub lines_flat : (c : ℕ) (es : List Event) → flat_map (event_line c) es ≡ lines_of c es
+pub lines_flat : (c : ℕ) (es : List Event) → flat_map (event_line c) es ≡ event_lines c es
 lines_flat c [] = refl
 lines_flat c (e ∷ es) = ap (λ (l : List ℕ). event_line c e ++ l) (lines_flat c es)
 
@@ -108,7 +108,7 @@ state_led n k s t u at led = led.state ∙ ap (λ (x : State). after_cycles x k)
 pub silent_lines : (n : ℕ) (s : State) → ((m : ℕ) → m < n → (cycle (after_cycles s m)).events ≡ []) → lines_after s n ≡ []
 silent_lines zero s silent = refl
 silent_lines (suc n) s silent =
-    ap (λ (es : List Event). lines_after s n ++ lines_of (after_cycles s n).cycle es) (silent n (omega arith))
+    ap (λ (es : List Event). lines_after s n ++ event_lines (after_cycles s n).cycle es) (silent n (omega arith))
     ∙ ap (λ (l : List ℕ). l ++ []) (silent_lines n s (λ m h. silent m (omega (arith, h))))
 
 pub lines_led : (n k : ℕ) (s t u : State) → t ≡ after_cycles s n → Leads k t u → lines_after s n ≡ lines_after s (n + k)
@@ -120,7 +120,7 @@ lines_led n k s t u at led =
 -- they were refused
 pub cut_after : {S : Type 0} (taken : S → Option (List ℕ)) (faults sure : S → ℕ) (n all : ℕ) (s t u : State) (number : ℕ) (events : List Event) (before mid after : S)
     → n < all → t ≡ after_cycles s n → number ≡ t.cycle → events ≡ (cycle t).events → u ≡ (cycle t).state
-    → Took taken faults sure before mid (lines_after s n) → CutOff taken faults sure mid after (lines_of number events)
+    → Took taken faults sure before mid (lines_after s n) → CutOff taken faults sure mid after (event_lines number events)
     → RanCutOff taken faults sure all s u before after
 cut_after taken faults sure n all s t u number events before mid after within is at are next so_far cut =
     let those = lines_are t (after_cycles s n) number events at are is in
@@ -133,21 +133,21 @@ cut_after taken faults sure n all s t u number events before mid after within is
       shorter = subst (λ (l : List ℕ). m < length l) those cut.shorter;
       bytes = appends_same (taken before) (taken after) _ (lines_after s n ++ take m (lines_now (after_cycles s n))) (ap (λ (l : List ℕ). lines_after s n ++ take m l) those)
           (appends_then (taken before) (taken mid) (taken after) (lines_after s n) _ so_far.whole cut.front.1);
-      cut = cut_within taken faults sure _ _ _ (lines_after s n) (lines_of number events) (lines_after (after_cycles s (n + 1)) (all - (n + 1))) (lines_after s all)
+      cut = cut_within taken faults sure _ _ _ (lines_after s n) (event_lines number events) (lines_after (after_cycles s (n + 1)) (all - (n + 1))) (lines_after s all)
           (lines_within n all s _ within those) so_far cut;
     }
 
 -- they were taken, and k cycles passed after it that have none
 pub ran_on : {S : Type 0} (taken : S → Option (List ℕ)) (faults sure : S → ℕ) (n k all : ℕ) (s t u v : State) (number : ℕ) (events : List Event) (before mid after : S)
     → t ≡ after_cycles s n → number ≡ t.cycle → events ≡ (cycle t).events → u ≡ (cycle t).state → Leads k u v → n + 1 + k ≡ all
-    → Took taken faults sure before mid (lines_after s n) → Took taken faults sure mid after (lines_of number events)
+    → Took taken faults sure before mid (lines_after s n) → Took taken faults sure mid after (event_lines number events)
     → RanWhole taken faults sure all s v before after
 ran_on taken faults sure n k all s t u v number events before mid after is at are next led done so_far took =
     let those = lines_are t (after_cycles s n) number events at are is in
     let there : u ≡ after_cycles s (n + 1) = next ∙ ap (λ (b : State). (cycle b).state) is ∙ sym (state_more n s) in
     record {
       state = state_led (n + 1) k s u v there led ∙ ap (after_cycles s) done;
-      lines = took_same taken faults sure _ _ (lines_after s n ++ lines_of number events) (lines_after s all)
+      lines = took_same taken faults sure _ _ (lines_after s n ++ event_lines number events) (lines_after s all)
           (lines_next n s _ those ∙ lines_led (n + 1) k s u v there led ∙ ap (lines_after s) done)
           (took_then taken faults sure _ _ _ (lines_after s n) _ so_far took);
     }

@@ -7,7 +7,7 @@ ghost use Rattle.written_machine.specs.Cycle.{cycle};
 ghost use Rattle.written_machine.specs.Passing.{Leads};
 ghost use Rattle.written_machine.specs.Standing.{stands_at};
 ghost use Rattle.written_machine.specs.Marks.{at_state, unmarked};
-ghost use Rattle.written_machine.specs.Trace.{end_of, end_line_of, lines_of};
+ghost use Rattle.written_machine.specs.Trace.{end_of, end_line_of, event_lines};
 ghost use Rattle.written_machine.specs.View.{boot};
 ghost use Rattle.sm_io.specs.Sink.{Puts};
 ghost use Rattle.board.specs.Alike.{PeersTell, PeersShow, PeersRun, PeersEnd};
@@ -272,7 +272,7 @@ impl Board {
 // (inlined: most cycles have none)
 #[inline(always)]
 pub fn put_lines<S: Sink>(sink: &mut S, cycle: u64, events: &[Event]) -> Result<(), Failed>
-    ensures { Puts S.taken S.faults S.sure sink.old sink.new (lines_of cycle events.now) result }
+    ensures { Puts S.taken S.faults S.sure sink.old sink.new (event_lines cycle events.now) result }
 {
     for event in events {
         let mut line = ArrayString::new();

@@ -11,7 +11,7 @@ use Rattle.tracer.specs.declared.Event.{Event}
 use Rattle.written_machine.specs.Cycle.{Step, told, unsettled, due, ticked, settle, turn, arrive_inside, sent_event, counted_by, move, cycle, after_cycles}
 use Rattle.written_machine.specs.Peers.{section}
 use Rattle.written_machine.specs.State.{State}
-use Rattle.isolation.specs.Calls.{entry_job, entry_lone, works, worked, NoEnd, NotBroken, Away, back_from, notes, away, backup_of, run_by, lone_of, find_held, Enters, Ends, Takes}
+use Rattle.isolation.specs.Calls.{entry_job, entry_lone, works, worked, NoEnd, NotBroken, Away, back_from, notes, away, backup_of, run_by, lone_of, find_held, Enters, EndsCall, Takes}
 use Rattle.isolation.proofs.Active.{active_some, turn_moves, arrives_at}
 use Rattle.isolation.proofs.Ending.{settled_as, settled_doing}
 use Rattle.isolation.proofs.Fine.{Fine, settled_fine}
@@ -170,20 +170,20 @@ module _ (j : Job) where
 
 -- ---- where it is told that the module ends
 module _ (m : ℕ) (own : Module) (key text : List ℕ) (from : ℕ) where
-  as_ends : (x : Doing) (s : State) → Ends m (settled_as m own key text x s).events → IsEnd x
+  as_ends : (x : Doing) (s : State) → EndsCall m (settled_as m own key text x s).events → IsEnd x
   as_ends Closes s h = tt
   as_ends Leaves s h = tt
   as_ends _ s h = h
 
-  settle_ends : (c : Bool) (s : State) (la : Lone) → Follows m own key text from s la → is_id m s.active ≡ c → Ends m (settle s).events → (c ≡ true) × IsEnd (doing (job m own key text from) la)
+  settle_ends : (c : Bool) (s : State) (la : Lone) → Follows m own key text from s la → is_id m s.active ≡ c → EndsCall m (settle s).events → (c ≡ true) × IsEnd (doing (job m own key text from) la)
   settle_ends false s la f e h = absurd (idle_ends m s e h)
   settle_ends true s la f e h =
       let d = settled_doing m own key text s f.keeps e in
       let x = doing (job_of key own text s.caller) (lone_of (backup_of m s) (section own.ram s.memory)) in
-      (refl, subst IsEnd (active_doing m own key text from s la f e) (as_ends x s (subst (λ u. Ends m u.events) d h)))
+      (refl, subst IsEnd (active_doing m own key text from s la f e) (as_ends x s (subst (λ u. EndsCall m u.events) d h)))
 
   -- so it is active, and by itself it has ended
-  pub ends_now : (s : State) (la : Lone) → Follows m own key text from s la → Ends m (settle (ticked s)).events → (is_id m s.active ≡ true) × IsEnd (doing (job m own key text from) la)
+  pub ends_now : (s : State) (la : Lone) → Follows m own key text from s la → EndsCall m (settle (ticked s)).events → (is_id m s.active ≡ true) × IsEnd (doing (job m own key text from) la)
   ends_now s la f h =
       let t = ticked s in
       let same = ticked_active s in
@@ -228,7 +228,7 @@ module _ (m : ℕ) (own : Module) (key text : List ℕ) (from : ℕ) where
 -- the cost of a call that was entered in cycle k and ends n + 1 cycles later
 module _ (a : Image) (m : ℕ) (own : Module) (schedule : List Scheduled) (k from : ℕ) (ok : IsImage a)
     (enters : Enters m from (cycle (at a schedule k)).events) (own_is : module_of m (settle (ticked (at a schedule k))).state.table ≡ Some own) where
-  pub costs : (n : ℕ) → ((i : ℕ) → i < n → NoEnd m (cycle (after_cycles (at a schedule (suc k)) i)).events) → Ends m (cycle (after_cycles (at a schedule (suc k)) n)).events →
+  pub costs : (n : ℕ) → ((i : ℕ) → i < n → NoEnd m (cycle (after_cycles (at a schedule (suc k)) i)).events) → EndsCall m (cycle (after_cycles (at a schedule (suc k)) n)).events →
       (let s = at a schedule (suc k) in
       let j = entry_job a schedule own k from in
       let l = entry_lone a schedule own k from in

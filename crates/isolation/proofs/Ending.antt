@@ -22,7 +22,7 @@ use Rattle.tracer.specs.declared.Event.{Event}
 use Rattle.written_machine.specs.Cycle.{Settled, unsettled, pc_of, in_text, leave_if, close_of, settle_by, settle_in, settle}
 use Rattle.written_machine.specs.Peers.{section}
 use Rattle.written_machine.specs.State.{State}
-use Rattle.isolation.specs.Calls.{Ends, rest_of}
+use Rattle.isolation.specs.Calls.{EndsCall, rest_of}
 use Rattle.isolation.proofs.Active.{active_some, said}
 use Rattle.isolation.proofs.EvenBy.{AlwaysEvenBy}
 use Rattle.isolation.proofs.Evenly.{Together, next_together}
@@ -99,8 +99,8 @@ module _ (m : ℕ) (own : Module) (key text : List ℕ) where
     -- they tell the same; where that ends a call, its cores are equal but for the answers; and if in these too, they go on alike
     pub record SettlesBut (a b : State) (ua ub : Settled) : Type 0 where
       pub events : ua.events ≡ ub.events
-      pub cores : Ends m ua.events → blank answers a.core ≡ blank answers b.core
-      pub settles : (Ends m ua.events → a.core ≡ b.core) → Settles ua ub
+      pub cores : EndsCall m ua.events → blank answers a.core ≡ blank answers b.core
+      pub settles : (EndsCall m ua.events → a.core ≡ b.core) → Settles ua ub
 
     module _ (a b : State) (twins : Twins m own key text answers a b) where
       pub outside_settles : is_id m a.active ≡ false → SettlesBut a b (settle a) (settle b)

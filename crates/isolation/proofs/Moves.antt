@@ -6,7 +6,7 @@ use Rattle.written_machine.specs.Cycle.{cycle, after_cycles}
 use Rattle.written_machine.specs.Marks.{Marked, at_state}
 use Rattle.written_machine.specs.Script.{Move, cycle_move, cycle_moves, led, moves_text}
 use Rattle.written_machine.specs.State.{State}
-use Rattle.written_machine.specs.Trace.{lines_of, lines_after}
+use Rattle.written_machine.specs.Trace.{event_lines, lines_after}
 
 -- moves one after another
 pub led_append : (g : Marked) (ms ns : List Move) → led g (ms ++ ns) ≡ led (led g ms) ns
@@ -26,7 +26,7 @@ pub text_cycles : (g : Marked) (n : ℕ) → moves_text (cycle_moves g n) ≡ li
 text_cycles g zero = refl
 text_cycles g (suc n) =
     let t = after_cycles g.present n in
-    rw (text_append (cycle_moves g n) (cycle_move (at_state g t) ∷ []), text_cycles g n, append-nil (lines_of t.cycle (cycle t).events)) refl
+    rw (text_append (cycle_moves g n) (cycle_move (at_state g t) ∷ []), text_cycles g n, append-nil (event_lines t.cycle (cycle t).events)) refl
 
 -- n cycles and m more
 pub cycles_split : (g : Marked) (n m : ℕ) → cycle_moves g (n + m) ≡ cycle_moves g n ++ cycle_moves (at_state g (after_cycles g.present n)) m

@@ -11,7 +11,7 @@ use Rattle.written_machine.specs.Peers.{PeersBut}
 use Rattle.written_machine.specs.Trace.{trace}
 use Rattle.written_machine.specs.View.{at, is_hidden_by, view_of}
 use Rattle.written_machine.specs.declared.Hidden.TheVariants.{All as AllHidden, Only}
-use Rattle.isolation.specs.Calls.{Ends, AnswersAgree}
+use Rattle.isolation.specs.Calls.{EndsCall, AnswersAgree}
 use Rattle.isolation.proofs.Active.{active_some}
 use Rattle.isolation.proofs.Tame.{ends_active}
 use Rattle.isolation.proofs.Telling.{seen_active, seen_core, all_seen, traces_while}
@@ -22,10 +22,10 @@ apart : (m p : ℕ) (a : Option ℕ) → m ≢ p → is_id m a ≡ true → is_h
 apart m p a ne h = ap (is_hidden_by (Only p)) (active_some m a h) ∙ (let f : (m == p) ≡ false = grind (arith, nat_tests) in f)
 
 one_more : (a b : Image) (m : ℕ) (answers : List ℕ) (schedule : List Scheduled) (n : ℕ) → AnswersAgree a b m answers schedule n →
-    (Ends m (cycle (at a schedule n)).events → All (λ r. reg (at a schedule n).core r ≡ reg (at b schedule n).core r) answers) → AnswersAgree a b m answers schedule (suc n)
+    (EndsCall m (cycle (at a schedule n)).events → All (λ r. reg (at a schedule n).core r ≡ reg (at b schedule n).core r) answers) → AnswersAgree a b m answers schedule (suc n)
 one_more a b m answers schedule n before last j lt e =
     ⊎_elim
-    (λ same. subst (λ k. All (λ r. reg (at a schedule k).core r ≡ reg (at b schedule k).core r) answers) (sym same) (last (subst (λ k. Ends m (cycle (at a schedule k)).events) same e)))
+    (λ same. subst (λ k. All (λ r. reg (at a schedule k).core r ≡ reg (at b schedule k).core r) answers) (sym same) (last (subst (λ k. EndsCall m (cycle (at a schedule k)).events) same e)))
     (λ other. before j (omega arith) e)
     (cases_eq j n)
 
@@ -50,7 +50,7 @@ module _ (a c b : Image) (m p : ℕ) (answers replies : List ℕ) (schedule : Li
 
   second_more : (n : ℕ) → First (suc n) → Second n → AnswersAgree a b p replies schedule (suc n) → Second (suc n)
   second_more n x y agree = one_more c b p replies schedule n y (λ e.
-      let ends = subst (Ends p) (sym (events_while a c m answers schedule first n x)) e in
+      let ends = subst (EndsCall p) (sym (events_while a c m answers schedule first n x)) e in
       let active = ends_active p (at a schedule n) ends in
       let core = seen_core m (at a schedule n) (at c schedule n) (first_views n (λ j lt. x j (omega arith))) (apart p m (at a schedule n).active (λ k. ne (sym k)) active) in
       subst (λ l. All (λ r. reg l r ≡ reg (at b schedule n).core r) replies) core (agree n (omega arith) ends))

@@ -14,7 +14,7 @@ use Rattle.written_machine.specs.Cycle.{Step, quiet, told, settle, ticked, arriv
 use Rattle.written_machine.specs.State.{State}
 use Rattle.written_machine.specs.View.{at, boot}
 use Rattle.written_machine.proofs.Stops.{cycle_by}
-use Rattle.isolation.specs.Calls.{Ends, ends_call, Hides, Handles, rest_of}
+use Rattle.isolation.specs.Calls.{EndsCall, ends_call, Hides, Handles, rest_of}
 use Rattle.isolation.proofs.Each.{Each, each_map}
 use Rattle.isolation.proofs.Ways.{perform_tells, sent_tells, EachAct, EachTurn, each_turn, Lasting, always, settle_ways}
 
@@ -55,7 +55,7 @@ bare_hides (Event.Hide id v ∷ xs) h g = h.0
 bare_hides (_ ∷ xs) h g = bare_hides xs h.1 g
 
 -- events that end in such
-late_ends : (m : ℕ) (xs ys : List Event) → Late ys → Ends m (xs ++ ys) → Ends m xs
+late_ends : (m : ℕ) (xs ys : List Event) → Late ys → EndsCall m (xs ++ ys) → EndsCall m xs
 late_ends m [] [] h g = g
 late_ends m [] (Event.Close id ∷ ys) h g = absurd h.0
 late_ends m [] (Event.Leave id pc ∷ ys) h g = absurd h.0
@@ -64,7 +64,7 @@ late_ends m (Event.Leave id pc ∷ xs) ys h g = ⊎_elim inl (λ r. inr (late_en
 late_ends m (_ ∷ xs) ys h g = late_ends m xs ys h g
 late_ends m [] (_ ∷ ys) h g = late_ends m [] ys h.1 g
 
-ends_front : (m : ℕ) (xs ys : List Event) → Ends m xs → Ends m (xs ++ ys)
+ends_front : (m : ℕ) (xs ys : List Event) → EndsCall m xs → EndsCall m (xs ++ ys)
 ends_front m [] ys g = absurd g
 ends_front m (Event.Close id ∷ xs) ys g = ⊎_elim inl (λ r. inr (ends_front m xs ys r)) g
 ends_front m (Event.Leave id pc ∷ xs) ys g = ⊎_elim inl (λ r. inr (ends_front m xs ys r)) g
@@ -225,12 +225,12 @@ runs_so_far s (suc n) h =
     last i false e lt r = let k : i ≢ suc n = grind (arith, nat_tests) in r i (omega arith)
 
 -- ---- ends are told by settling alone
-ends_counted : (m : ℕ) (o : Option Stop) (es : List Event) (t : Step) → Late t.events → Ends m (counted_by o (told es t)).events → Ends m es
+ends_counted : (m : ℕ) (o : Option Stop) (es : List Event) (t : Step) → Late t.events → EndsCall m (counted_by o (told es t)).events → EndsCall m es
 ends_counted m (Some stop) es t l h = late_ends m es t.events l h
 ends_counted m None es t l h = late_ends m es t.events l
     (late_ends m (es ++ t.events) (sent_event t.state.devices.sent) (sent_tells Late tt (λ b. (tt, tt)) t.state.devices.sent) h)
 
-move_ends : (m : ℕ) (s : State) → Ends m (move s).events → Ends m (settle (ticked s)).events
+move_ends : (m : ℕ) (s : State) → EndsCall m (move s).events → EndsCall m (settle (ticked s)).events
 unfolding move
 move_ends m s h =
     let u = settle (ticked s) in
@@ -238,11 +238,11 @@ move_ends m s h =
     ends_counted m t.state.stop u.events t (turn_late u.left u.state) h
 
 -- and each end that settling tells
-counted_ends : (m : ℕ) (o : Option Stop) (es : List Event) (t : Step) → Ends m es → Ends m (counted_by o (told es t)).events
+counted_ends : (m : ℕ) (o : Option Stop) (es : List Event) (t : Step) → EndsCall m es → EndsCall m (counted_by o (told es t)).events
 counted_ends m (Some stop) es t h = ends_front m es t.events h
 counted_ends m None es t h = ends_front m (es ++ t.events) (sent_event t.state.devices.sent) (ends_front m es t.events h)
 
-pub settled_ends : (m : ℕ) (s : State) → Ends m (settle (ticked s)).events → Ends m (move s).events
+pub settled_ends : (m : ℕ) (s : State) → EndsCall m (settle (ticked s)).events → EndsCall m (move s).events
 unfolding move
 settled_ends m s h = let u = settle (ticked s) in let t = turn u.left u.state in counted_ends m t.state.stop u.events t h
 
@@ -256,7 +256,7 @@ pub move_filter : (m : ℕ) (s : State) → filter (ends_call m) (move s).events
 unfolding move
 move_filter m s = let u = settle (ticked s) in let t = turn u.left u.state in counted_filter m t.state.stop u.events t (turn_late u.left u.state)
 
-pub cycle_ends : (m : ℕ) (o : Option Stop) (s : State) → s.stop ≡ o → Ends m (cycle_by o s).events → (s.stop ≡ None) × Ends m (settle (ticked s)).events
+pub cycle_ends : (m : ℕ) (o : Option Stop) (s : State) → s.stop ≡ o → EndsCall m (cycle_by o s).events → (s.stop ≡ None) × EndsCall m (settle (ticked s)).events
 cycle_ends m (Some stop) s e h = absurd h
 cycle_ends m None s e h = (e, move_ends m s h)
 
@@ -265,12 +265,12 @@ module _ (m : ℕ) where
   one_end : (id : ℕ) → (id == m) ≡ false → ((id ≡ m) ⊎ ⊥) → ⊥
   one_end id n h = let ne : id ≢ m = grind (arith, nat_tests) in ⊎_elim ne (λ x. x) h
 
-  pub idle_ends : (s : State) → is_id m s.active ≡ false → Ends m (settle s).events → ⊥
+  pub idle_ends : (s : State) → is_id m s.active ≡ false → EndsCall m (settle s).events → ⊥
   idle_ends s n =
-      settle_ways s (λ u. Ends m u.events → ⊥) (λ h. h) (λ b fs e h. h) (λ id x a o. one_end id (ap (is_id m) (sym a) ∙ n)) (λ e h. h)
+      settle_ways s (λ u. EndsCall m u.events → ⊥) (λ h. h) (λ b fs e h. h) (λ id x a o. one_end id (ap (is_id m) (sym a) ∙ n)) (λ e h. h)
       (λ id a. one_end id (ap (is_id m) (sym a) ∙ n))
 
-  pub ends_active : (s : State) → Ends m (cycle s).events → is_id m s.active ≡ true
+  pub ends_active : (s : State) → EndsCall m (cycle s).events → is_id m s.active ≡ true
   unfolding ticked
   ends_active s h = by (is_id m s.active) refl
     where

@@ -14,7 +14,7 @@ use Rattle.written_machine.specs.Cycle.{cycle}
 use Rattle.written_machine.specs.Peers.{PeersBut, Peers}
 use Rattle.written_machine.specs.Standing.{stands_at}
 use Rattle.written_machine.specs.State.{State}
-use Rattle.written_machine.specs.Trace.{lines_of, end_by, end_line_of, lines_after, trace}
+use Rattle.written_machine.specs.Trace.{event_lines, end_by, end_line_of, lines_after, trace}
 use Rattle.written_machine.specs.View.{boot, at, is_hidden_by, Seen, SeenPlain, SeenHidden, SeenWhole, seen_frame, seen_byte, View, view_of}
 use Rattle.written_machine.specs.declared.Hidden.TheVariants.{All as AllHidden, Only}
 use Rattle.std.proofs.Common.{◌≡◌, ℕ, zero, suc, ◌+◌, List, [], ◌∷◌, ◌++◌, map, refl, sym, ap, ◌∙◌, arith, Bool, true, false, nat_lt, cond, ◌==◌, Option, Some, None, is_some}
@@ -121,10 +121,10 @@ module _ (a b : Image) (m : ℕ) (answers : List ℕ) (schedule : List Scheduled
   cycles_while : (k : ℕ) → AnswersAgree a b m answers schedule k → (at a schedule k).cycle ≡ (at b schedule k).cycle
   cycles_while k agree = seen_cycle m (at a schedule k) (at b schedule k) (views_while a b m answers schedule peers k agree)
 
-  lines_same : (k : ℕ) → AnswersAgree a b m answers schedule (suc k) → lines_of (at a schedule k).cycle (cycle (at a schedule k)).events ≡ lines_of (at b schedule k).cycle (cycle (at b schedule k)).events
+  lines_same : (k : ℕ) → AnswersAgree a b m answers schedule (suc k) → event_lines (at a schedule k).cycle (cycle (at a schedule k)).events ≡ event_lines (at b schedule k).cycle (cycle (at b schedule k)).events
   lines_same k agree =
-      ap (λ c. lines_of c (cycle (at a schedule k)).events) (cycles_while k (λ j lt. agree j (omega arith)))
-      ∙ ap (lines_of (at b schedule k).cycle) (events_while a b m answers schedule peers k agree)
+      ap (λ c. event_lines c (cycle (at a schedule k)).events) (cycles_while k (λ j lt. agree j (omega arith)))
+      ∙ ap (event_lines (at b schedule k).cycle) (events_while a b m answers schedule peers k agree)
 
   lines_while : (k n : ℕ) → AnswersAgree a b m answers schedule (n + k) → lines_after (at a schedule k) n ≡ lines_after (at b schedule k) n
   lines_while k zero agree = refl

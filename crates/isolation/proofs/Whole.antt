@@ -27,7 +27,7 @@ use Rattle.written_machine.specs.State.{State}
 use Rattle.written_machine.specs.View.{boot, at, is_hidden_by, Seen, seen_frame, seen_byte, View, view_of}
 use Rattle.written_machine.specs.declared.Hidden.TheVariants.{Only}
 use Rattle.written_machine.proofs.Stops.{cycle_by}
-use Rattle.isolation.specs.Calls.{Ends, ends_call, AnswersAgree}
+use Rattle.isolation.specs.Calls.{EndsCall, ends_call, AnswersAgree}
 use Rattle.isolation.proofs.Active.{active_turn}
 use Rattle.isolation.proofs.EvenBy.{each_bound}
 use Rattle.isolation.proofs.Bytes.{Out, get_cleared, length_cleared, get_in_cleared, part_cleared}
@@ -115,13 +115,13 @@ module _ (m : ℕ) (own : Module) (key text answers : List ℕ) (answers_ok : li
 
   -- where this step ends a call of the module, the answers are equal
   abbrev Agrees : Step → State → State → Type 0
-  Agrees t a b = Ends m t.events → All (λ r. reg a.core r ≡ reg b.core r) answers
+  Agrees t a b = EndsCall m t.events → All (λ r. reg a.core r ≡ reg b.core r) answers
 
   move_alike : (a b : State) → Twins m own key text answers a b → Fine a → Fine b → Agrees (move a) a b → Alike m own key text answers (move a) (move b)
   unfolding move finish ticked
   move_alike a b t fa fb agree =
       let s = settled_but a b t in
-      let same : Ends m (settle (ticked a)).events → a.core ≡ b.core = λ e. no_answer_differs answers a.core b.core (s.cores e) (agree (settled_ends m a e)) in
+      let same : EndsCall m (settle (ticked a)).events → a.core ≡ b.core = λ e. no_answer_differs answers a.core b.core (s.cores e) (agree (settled_ends m a e)) in
       let u = turns (settle (ticked a)) (settle (ticked b)) (s.settles same) (settled_fine a fa) (settled_fine b fb) in
       counted_alike (settle (ticked a)).events (settle (ticked b)).events (turn (settle (ticked a)).left (settle (ticked a)).state) (turn (settle (ticked b)).left (settle (ticked b)).state) s.events u
 
@@ -149,7 +149,7 @@ module _ (m : ℕ) (own : Module) (key text answers : List ℕ) (answers_ok : li
       (λ t. subst (λ o. filter (ends_call m) (cycle a).events ≡ filter (ends_call m) (cycle_by o b).events) (seen_stop a b t.seen) (ends_by a.stop a b t))
       r
 
-  cores_alike : (a b : State) → Related m own key text answers a b → Ends m (cycle a).events → blank answers a.core ≡ blank answers b.core
+  cores_alike : (a b : State) → Related m own key text answers a b → EndsCall m (cycle a).events → blank answers a.core ≡ blank answers b.core
   unfolding ticked
   cores_alike a b r h = ⊎_elim (λ e. ap (λ (s : State). blank answers s.core) e) (λ t. (settled_but a b t).cores (cycle_ends m a.stop a refl h).1) r
 
@@ -281,7 +281,7 @@ module _ (a b : Image) (m : ℕ) (answers : List ℕ) (schedule : List Scheduled
   pub ends_while : (k : ℕ) → AnswersAgree a b m answers schedule k → filter (ends_call m) (cycle (at a schedule k)).events ≡ filter (ends_call m) (cycle (at b schedule k)).events
   ends_while k agree = ends_alike m own a.node_key (section own.text a.memory) answers peers.answers_ok (at a schedule k) (at b schedule k) (related_at k agree)
 
-  pub cores_while : (k : ℕ) → AnswersAgree a b m answers schedule k → Ends m (cycle (at a schedule k)).events → blank answers (at a schedule k).core ≡ blank answers (at b schedule k).core
+  pub cores_while : (k : ℕ) → AnswersAgree a b m answers schedule k → EndsCall m (cycle (at a schedule k)).events → blank answers (at a schedule k).core ≡ blank answers (at b schedule k).core
   cores_while k agree = cores_alike m own a.node_key (section own.text a.memory) answers peers.answers_ok (at a schedule k) (at b schedule k) (related_at k agree)
 
 -- ---- where no register is an answer

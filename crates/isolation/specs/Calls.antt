@@ -37,11 +37,11 @@ NoEnd m (Closed id ∷ es) = (id ≢ m) × NoEnd m es
 NoEnd m (_ ∷ es) = NoEnd m es
 
 -- module m is left or closed
-abbrev pub Ends : ℕ → List Event → Type 0
-Ends m [] = ⊥
-Ends m (Left id pc ∷ es) = (id ≡ m) ⊎ Ends m es
-Ends m (Closed id ∷ es) = (id ≡ m) ⊎ Ends m es
-Ends m (_ ∷ es) = Ends m es
+abbrev pub EndsCall : ℕ → List Event → Type 0
+EndsCall m [] = ⊥
+EndsCall m (Left id pc ∷ es) = (id ≡ m) ⊎ EndsCall m es
+EndsCall m (Closed id ∷ es) = (id ≡ m) ⊎ EndsCall m es
+EndsCall m (_ ∷ es) = EndsCall m es
 
 -- whether an event ends a call of module m
 abbrev pub ends_call : ℕ → Event → Bool
@@ -198,5 +198,5 @@ away m s (suc n) = notes m n (cycle (after_cycles s n)).events (away m s n)
 -- the answers are equal in both runs wherever one of the first n cycles ends a call of module m in the first of them: before
 -- that cycle the registers are still the module's
 abbrev pub AnswersAgree : Image → Image → ℕ → List ℕ → List Entry → ℕ → Type 0
-AnswersAgree a b m answers schedule n = (j : ℕ) → j < n → Ends m (cycle (at a schedule j)).events →
+AnswersAgree a b m answers schedule n = (j : ℕ) → j < n → EndsCall m (cycle (at a schedule j)).events →
     All (λ r. reg (at a schedule j).core r ≡ reg (at b schedule j).core r) answers

@@ -26,7 +26,7 @@ use Rattle.written_machine.specs.View.{view_of, at}
 use Rattle.written_machine.specs.declared.Hidden.TheVariants.{All as AllHidden, Only}
 use Rattle.written_machine.specs.declared.ScriptLine.{ScriptLine}
 use Rattle.isolation.specs.Moments.{moment}
-use Rattle.isolation.specs.Calls.{Enters, Ends, ends_call, AnswersAgree, Hides, Handles, stop_in, UnderWay, entry_state, entry_job, entry_lone, worked, NotBroken, Takes, Stands, times, away}
+use Rattle.isolation.specs.Calls.{Enters, EndsCall, ends_call, AnswersAgree, Hides, Handles, stop_in, UnderWay, entry_state, entry_job, entry_lone, worked, NotBroken, Takes, Stands, times, away}
 use Rattle.sm_words.specs.Status.{is_gie}
 
 -- ---- two runs of peers, on every schedule
@@ -124,7 +124,7 @@ EndsAlike = (a b : Image) (m : ℕ) (answers : List ℕ) (schedule : List Entry)
 -- and then all registers but the answers are equal.
 abbrev pub AnswersAlone : Type 0
 AnswersAlone = (a b : Image) (m : ℕ) (answers : List ℕ) (schedule : List Entry) (n : ℕ) → PeersBut a b m answers → AnswersAgree a b m answers schedule n →
-    Ends m (cycle (at a schedule n)).events → blank answers (at a schedule n).core ≡ blank answers (at b schedule n).core
+    EndsCall m (cycle (at a schedule n)).events → blank answers (at a schedule n).core ≡ blank answers (at b schedule n).core
 
 -- Two modules that answer, where image c is between a and b: it has b's data in m, and a's in p. While the answers of both agree in a and
 -- b, the views are equal, where every module is hidden,
@@ -160,7 +160,7 @@ Transparency = (a : Image) (schedule : List Entry) (m : ℕ) (owner : Module) (k
 -- cycle less the entry's is c, and for each hide between them the cycles from the hide to the module's next resume.
 abbrev pub Cost : Type 0
 Cost = (a : Image) (schedule : List Entry) (m : ℕ) (owner : Module) (k from n : ℕ) → UnderWay a schedule m owner k from n →
-    Ends m (cycle (after_cycles (at a schedule (suc k)) n)).events →
+    EndsCall m (cycle (after_cycles (at a schedule (suc k)) n)).events →
     (let s = at a schedule (suc k) in
     let c = 1 + worked m s n in
     let j = entry_job a schedule owner k from in

@@ -12,7 +12,7 @@ use Rattle.tracer.specs.Lines.{event_line}
 use Rattle.tracer.specs.declared.Event.{Event}
 use Rattle.written_machine.specs.Cycle.{Step, settle, ticked, told, turn, counted_by, move, cycle, after_cycles}
 use Rattle.written_machine.specs.State.{State}
-use Rattle.written_machine.specs.Trace.{lines_of, lines_after, end_by, end_of, end_line_of}
+use Rattle.written_machine.specs.Trace.{event_lines, lines_after, end_by, end_of, end_line_of}
 use Rattle.written_machine.specs.View.{at, boot}
 use Rattle.written_machine.proofs.Stops.{cycle_by}
 use Rattle.vendor_tool.specs.Laws.{TimedEvent, IsTold, IsEndState, StandsInPlace, events_text, sent_in, sent}
@@ -65,7 +65,7 @@ abbrev timed : ℕ → List Event → List TimedEvent
 timed c [] = []
 timed c (e ∷ es) = record { cycle = c; event = e } ∷ timed c es
 
-timed_text : (c : ℕ) (es : List Event) → events_text (timed c es) ≡ lines_of c es
+timed_text : (c : ℕ) (es : List Event) → events_text (timed c es) ≡ event_lines c es
 timed_text c [] = refl
 timed_text c (e ∷ es) = ap (λ t. event_line c e ++ t) (timed_text c es)
 

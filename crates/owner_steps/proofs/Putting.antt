@@ -5,7 +5,7 @@ use Rattle.pc_access.specs.declared.Stop.{Stop}
 use Rattle.tracer.specs.declared.Event.{Event}
 use Rattle.written_machine.specs.Cycle.{after_cycles, cycle}
 use Rattle.written_machine.specs.State.{State}
-use Rattle.written_machine.specs.Trace.{lines_of}
+use Rattle.written_machine.specs.Trace.{event_lines}
 use Rattle.board.specs.Ran.{ran_of}
 use Rattle.board.specs.declared.Ran.{Ran}
 use Rattle.owner_steps.specs.Begun.{Begun, begun}
@@ -14,16 +14,16 @@ use Rattle.owner_steps.specs.Steps.{lines_between, early_count, owner_lines, tex
 
 -- the lines before an instruction, and those behind it
 abbrev pub early_lines : State → List ℕ
-early_lines s = lines_of s.cycle (take (early_count (cycle s).events) (cycle s).events)
+early_lines s = event_lines s.cycle (take (early_count (cycle s).events) (cycle s).events)
 
 abbrev pub late_lines : State → List ℕ
-late_lines s = lines_of s.cycle (drop (early_count (cycle s).events) (cycle s).events)
+late_lines s = event_lines s.cycle (drop (early_count (cycle s).events) (cycle s).events)
 
-pub early_is : (s : State) (number : ℕ) (events xs : List Event) → number ≡ s.cycle → events ≡ (cycle s).events → xs ≡ take (early_count events) events → lines_of number xs ≡ early_lines s
-early_is s number events xs at are is = ap (λ (k : ℕ). lines_of k xs) at ∙ ap (lines_of s.cycle) (is ∙ ap (λ (es : List Event). take (early_count es) es) are)
+pub early_is : (s : State) (number : ℕ) (events xs : List Event) → number ≡ s.cycle → events ≡ (cycle s).events → xs ≡ take (early_count events) events → event_lines number xs ≡ early_lines s
+early_is s number events xs at are is = ap (λ (k : ℕ). event_lines k xs) at ∙ ap (event_lines s.cycle) (is ∙ ap (λ (es : List Event). take (early_count es) es) are)
 
-pub late_is : (s : State) (number : ℕ) (events xs : List Event) → number ≡ s.cycle → events ≡ (cycle s).events → xs ≡ drop (early_count events) events → lines_of number xs ≡ late_lines s
-late_is s number events xs at are is = ap (λ (k : ℕ). lines_of k xs) at ∙ ap (lines_of s.cycle) (is ∙ ap (λ (es : List Event). drop (early_count es) es) are)
+pub late_is : (s : State) (number : ℕ) (events xs : List Event) → number ≡ s.cycle → events ≡ (cycle s).events → xs ≡ drop (early_count events) events → event_lines number xs ≡ late_lines s
+late_is s number events xs at are is = ap (λ (k : ℕ). event_lines k xs) at ∙ ap (event_lines s.cycle) (is ∙ ap (λ (es : List Event). drop (early_count es) es) are)
 
 pub own_is : (s t : State) (old new : List ℕ) (o : Option Begun) → old ≡ s.core → t ≡ (cycle s).state → new ≡ t.core → o ≡ begun s → lines_between old o new ≡ owner_lines s
 own_is s t old new o before state after begins =

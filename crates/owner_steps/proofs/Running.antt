@@ -12,7 +12,7 @@ use Rattle.tracer.specs.Lines.{event_line}
 use Rattle.tracer.specs.declared.Event.{Event}
 use Rattle.written_machine.specs.Cycle.{Step, cycle, after_cycles}
 use Rattle.written_machine.specs.State.{State}
-use Rattle.written_machine.specs.Trace.{end_line_of, lines_of, lines_after, trace}
+use Rattle.written_machine.specs.Trace.{end_line_of, event_lines, lines_after, trace}
 use Rattle.written_machine.specs.View.{at, boot}
 use Rattle.board.proofs.Runs.{state_more, state_split, stays, stopped_state}
 use Rattle.owner_steps.specs.Begun.{begun}
@@ -22,10 +22,10 @@ use Rattle.owner_steps.proofs.Finding.{none_begun}
 
 -- ---- the trace
 
-lines_parted : (c n : ℕ) (es : List Event) → (lines_of c (take n es) ++ []) ++ lines_of c (drop n es) ≡ lines_of c es
+lines_parted : (c n : ℕ) (es : List Event) → (event_lines c (take n es) ++ []) ++ event_lines c (drop n es) ≡ event_lines c es
 lines_parted c n es =
-    ap (λ (l : List ℕ). l ++ lines_of c (drop n es)) (append-nil (lines_of c (take n es)))
-    ∙ sym (flat_map-append (event_line c) (take n es) (drop n es)) ∙ ap (lines_of c) (take-append-drop n es)
+    ap (λ (l : List ℕ). l ++ event_lines c (drop n es)) (append-nil (event_lines c (take n es)))
+    ∙ sym (flat_map-append (event_line c) (take n es) (drop n es)) ∙ ap (event_lines c) (take-append-drop n es)
 
 traced : (s : State) (n : ℕ) → run_with (λ t. []) s n ≡ lines_after s n
 traced s zero = refl
@@ -86,7 +86,7 @@ silent : (s : State) (stop : Stop) → s.stop ≡ Some stop → lines_with owner
 silent s stop e =
     let rests = stays s stop e in
     let none : begun s ≡ None = none_begun s (cycle s).state refl (ap (λ (t : Step). is_some t.state.stop) rests ∙ ap is_some e) in
-    ap (λ (t : Step). (lines_of s.cycle (take (early_count t.events) t.events) ++ lines_between s.core (begun s) t.state.core) ++ lines_of s.cycle (drop (early_count t.events) t.events)) rests
+    ap (λ (t : Step). (event_lines s.cycle (take (early_count t.events) t.events) ++ lines_between s.core (begun s) t.state.core) ++ event_lines s.cycle (drop (early_count t.events) t.events)) rests
     ∙ ap (λ o. lines_between s.core o s.core ++ []) none
     ∙ append-nil (registers_line s.core s.core)
     ∙ no_line s.core

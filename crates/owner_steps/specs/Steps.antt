@@ -7,7 +7,7 @@ use Rattle.tracer.specs.declared.Event.{Event}
 use Rattle.tracer.specs.declared.Event.TheVariants.{Reti, Protect, Out, Stop}
 use Rattle.written_machine.specs.Cycle.{cycle, after_cycles}
 use Rattle.written_machine.specs.State.{State}
-use Rattle.written_machine.specs.Trace.{end_line_of, lines_of}
+use Rattle.written_machine.specs.Trace.{end_line_of, event_lines}
 use Rattle.written_machine.specs.View.{boot}
 use Rattle.owner_steps.specs.Begun.{Begun, begun}
 use Rattle.owner_steps.specs.Registers.{registers_line}
@@ -35,7 +35,8 @@ owner_lines s = lines_between s.core (begun s) (cycle s).state.core
 abbrev pub lines_with : (State → List ℕ) → State → List ℕ
 lines_with more s =
     let events = (cycle s).events in
-    lines_of s.cycle (take (early_count events) events) ++ more s ++ lines_of s.cycle (drop (early_count events) events)
+    event_lines s.cycle (take (early_count events) events) ++ more s
+    ++ event_lines s.cycle (drop (early_count events) events)
 
 -- those of the next n cycles
 abbrev pub run_with : (State → List ℕ) → State → ℕ → List ℕ

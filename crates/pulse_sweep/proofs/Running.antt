@@ -3,7 +3,7 @@ use Rattle.std.proofs.Common.{◌≡◌, ℕ, suc, ◌+◌, List, ◌++◌, sym,
 use Rattle.image_text.specs.Image.{Image}
 use Rattle.written_machine.specs.Cycle.{cycle, after_cycles}
 use Rattle.written_machine.specs.State.{State}
-use Rattle.written_machine.specs.Trace.{end_line_of, lines_of, lines_after}
+use Rattle.written_machine.specs.Trace.{end_line_of, event_lines, lines_after}
 use Rattle.written_machine.specs.View.{boot}
 use Rattle.pulse_sweep.specs.Columns.{columns_after}
 use Rattle.pulse_sweep.specs.Sweep.{columns_at, lone_pulse, trace_at}
@@ -23,11 +23,11 @@ columns_next c s t n x y at so is =
     ∙ sym (columns_more c s n)
 
 pub lines_next : (s t : State) (n : ℕ) (text more : List ℕ) → t ≡ after_cycles s n → text ≡ lines_after s n
-    → more ≡ text ++ lines_of t.cycle (cycle t).events → more ≡ lines_after s (n + 1)
+    → more ≡ text ++ event_lines t.cycle (cycle t).events → more ≡ lines_after s (n + 1)
 lines_next s t n text more at so is =
     let e : n + 1 ≡ suc n = omega arith in
-    is ∙ ap (λ (l : List ℕ). l ++ lines_of t.cycle (cycle t).events) so
-    ∙ ap (λ (u : State). lines_after s n ++ lines_of u.cycle (cycle u).events) at
+    is ∙ ap (λ (l : List ℕ). l ++ event_lines t.cycle (cycle t).events) so
+    ∙ ap (λ (u : State). lines_after s n ++ event_lines u.cycle (cycle u).events) at
     ∙ sym (ap (lines_after s) e)
 
 pub columns_whole : (p : Pulses) (image : Image) (c n : ℕ) (x : Columns) → n ≡ p.cycles → x ≡ columns_after c (boot image (lone_pulse p.line c)) n → x ≡ columns_at p image c

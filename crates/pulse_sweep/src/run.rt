@@ -2,7 +2,7 @@
 
 ghost use Rattle.std.specs.Prelude.{◌≡◌, ◌<◌, ◌≤◌, ◌+◌, ◌++◌, ◌^◌, IfOk, OnOk};
 ghost use Rattle.written_machine.specs.Cycle.{cycle};
-ghost use Rattle.written_machine.specs.Trace.{end_line_of, lines_of};
+ghost use Rattle.written_machine.specs.Trace.{end_line_of, event_lines};
 ghost use Rattle.pulse_sweep.specs.Sweep.{lone_pulse as pulse_alone, trace_at, columns_at};
 ghost use Rattle.pulse_sweep.specs.internal.Told.{joined_columns, columns_of};
 
@@ -64,7 +64,7 @@ impl Run {
         ensures columns { OnOk result (self.new.columns ≡ joined_columns self.old.columns
             (columns_of pulse board.old.present.cycle (cycle board.old.present).events)) }
         ensures trace { OnOk result (self.new.trace.items ≡
-            self.old.trace.items ++ lines_of board.old.present.cycle (cycle board.old.present).events) }
+            self.old.trace.items ++ event_lines board.old.present.cycle (cycle board.old.present).events) }
     {
         let cycle = cycle_of(board);
         let events = board.tick();
@@ -101,7 +101,7 @@ fn cycle_of(board: &Board) -> u64
 
 // Appends the lines of a cycle's events.
 fn push_lines(cycle: u64, events: &[Event], trace: &mut Vec<u8>) -> Result<(), NoMemory>
-    ensures { OnOk result (trace.new.items ≡ trace.old.items ++ lines_of cycle events.now) }
+    ensures { OnOk result (trace.new.items ≡ trace.old.items ++ event_lines cycle events.now) }
 {
     for event in events {
         let mut line = ArrayString::new();

@@ -11,7 +11,7 @@ use Rattle.tracer.specs.declared.Event.TheVariants.{Stop as StopEvent}
 use Rattle.written_machine.specs.Checks.{refused_in}
 use Rattle.written_machine.specs.Cycle.{cycle, after_cycles}
 use Rattle.written_machine.specs.State.{State}
-use Rattle.written_machine.specs.Trace.{lines_of, lines_after, end_line_of}
+use Rattle.written_machine.specs.Trace.{event_lines, lines_after, end_line_of}
 use Rattle.written_machine.specs.View.{at, boot}
 use Rattle.written_machine.proofs.Stops.{cycle_by}
 use Rattle.isolation.specs.Calls.{stop_in}
@@ -35,23 +35,23 @@ has_before text more part h =
     (h.0, h.1 ++ more, ap (λ t. t ++ more) h.2 ∙ append_assoc h.0 (part ++ h.1) more ∙ ap (λ t. h.0 ++ t) (append_assoc part h.1 more))
 
 -- the events that tell a stop have its line
-stop_line : (c : ℕ) (events : List Event) (stop : Stop) → stop_in events ≡ Some stop → Has (lines_of c events) (event_line c (StopEvent stop))
+stop_line : (c : ℕ) (events : List Event) (stop : Stop) → stop_in events ≡ Some stop → Has (event_lines c events) (event_line c (StopEvent stop))
 stop_line c [] stop e = cc
 stop_line c (StopEvent own ∷ es) stop e =
     let same : own ≡ stop = cc in
-    subst (λ s. Has (lines_of c (StopEvent own ∷ es)) (event_line c (StopEvent s))) same (has_first (event_line c (StopEvent own)) (lines_of c es))
-stop_line c (event ∷ es) stop e = has_after (event_line c event) (lines_of c es) (event_line c (StopEvent stop)) (stop_line c es stop e)
+    subst (λ s. Has (event_lines c (StopEvent own ∷ es)) (event_line c (StopEvent s))) same (has_first (event_line c (StopEvent own)) (event_lines c es))
+stop_line c (event ∷ es) stop e = has_after (event_line c event) (event_lines c es) (event_line c (StopEvent stop)) (stop_line c es stop e)
 
 -- the lines of a cycle are among those of a run past it
-cycle_lines : (s : State) (n k : ℕ) (part : List ℕ) → k < n → Has (lines_of (after_cycles s k).cycle (cycle (after_cycles s k)).events) part → Has (lines_after s n) part
+cycle_lines : (s : State) (n k : ℕ) (part : List ℕ) → k < n → Has (event_lines (after_cycles s k).cycle (cycle (after_cycles s k)).events) part → Has (lines_after s n) part
 cycle_lines s zero k part lt h = absurd (omega arith)
 cycle_lines s (suc n) k part lt h =
     let t = after_cycles s n in
     ⊎_elim
-    (λ below. has_before (lines_after s n) (lines_of t.cycle (cycle t).events) part (cycle_lines s n k part below h))
+    (λ below. has_before (lines_after s n) (event_lines t.cycle (cycle t).events) part (cycle_lines s n k part below h))
     (λ here.
     let same : k ≡ n = omega arith in
-    has_after (lines_after s n) (lines_of t.cycle (cycle t).events) part (subst (λ i. Has (lines_of (after_cycles s i).cycle (cycle (after_cycles s i)).events) part) same h))
+    has_after (lines_after s n) (event_lines t.cycle (cycle t).events) part (subst (λ i. Has (event_lines (after_cycles s i).cycle (cycle (after_cycles s i)).events) part) same h))
     (cases_lt k n)
 
 -- a stopped machine stays so

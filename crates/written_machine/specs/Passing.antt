@@ -35,14 +35,14 @@ pub data OnlyPass (n : ℕ) (s : State) : Type 0 where
   Sleeps : s.phase ≡ Run 0 → s.after ≡ Next → s.active ≡ None → asleep s ≡ true → Calm n s → OnlyPass n s
 
 -- the phase and what is settled after it, n cycles later
-abbrev pub later : ℕ → Phase → After → Phase × After
-later n (Pad left) after = padding (left - n)
-later n (Run rest) after = (Run (rest - n), after)
+abbrev pub phase_later : ℕ → Phase → After → Phase × After
+phase_later n (Pad left) after = padding (left - n)
+phase_later n (Run rest) after = (Run (rest - n), after)
 
 -- the state n cycles later, where these only pass: devices, cycle number, padding and rest are moved on, and all else is as it was
 abbrev pub passed : ℕ → State → State
 passed n s =
-    let p = later n s.phase s.after in
+    let p = phase_later n s.phase s.after in
     record s { devices = ticked_by n s.cycle s.devices; cycle = s.cycle + n; phase = p.0; after = p.1 }
 
 -- n cycles lead from one state to the other, and tell nothing

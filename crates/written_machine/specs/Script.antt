@@ -11,7 +11,7 @@ use Rattle.written_machine.specs.Cycle.{cycle, after_cycles}
 use Rattle.written_machine.specs.Marks.{Marked, at_state, marked, back_to, last_at}
 use Rattle.written_machine.specs.Standing.{cycles_until}
 use Rattle.written_machine.specs.State.{State}
-use Rattle.written_machine.specs.Trace.{lines_of, end_line_of}
+use Rattle.written_machine.specs.Trace.{event_lines, end_line_of}
 use Rattle.written_machine.specs.View.{View, view_of}
 use Rattle.written_machine.specs.declared.Hidden.TheVariants.{All as AllHidden}
 use Rattle.written_machine.specs.declared.ScriptLine.{ScriptLine}
@@ -98,7 +98,7 @@ shown text g = record { text = text; after = g }
 
 -- one cycle, with its lines
 abbrev pub cycle_move : Marked → Move
-cycle_move g = let t = cycle g.present in record { text = lines_of g.present.cycle t.events; after = at_state g t.state }
+cycle_move g = let t = cycle g.present in record { text = event_lines g.present.cycle t.events; after = at_state g t.state }
 
 -- the next n cycles
 abbrev pub cycle_moves : Marked → ℕ → List Move

@@ -12,8 +12,8 @@ use Rattle.written_machine.specs.State.{State}
 use Rattle.written_machine.specs.View.{boot, at}
 
 -- the lines of a cycle's events, in their order
-abbrev pub lines_of : ℕ → List Event → List ℕ
-lines_of c events = flat_map (event_line c) events
+abbrev pub event_lines : ℕ → List Event → List ℕ
+event_lines c events = flat_map (event_line c) events
 
 -- by the stop, if there is one, and by the active module, if there is one
 abbrev pub end_by : Option Stop → Option ℕ → List ℕ → EndState
@@ -32,7 +32,7 @@ end_line_of s = end_line_at s.cycle (end_of s)
 -- the lines of the next n cycles
 abbrev pub lines_after : State → ℕ → List ℕ
 lines_after s zero = []
-lines_after s (suc n) = let t = after_cycles s n in lines_after s n ++ lines_of t.cycle (cycle t).events
+lines_after s (suc n) = let t = after_cycles s n in lines_after s n ++ event_lines t.cycle (cycle t).events
 
 -- the outside trace
 abbrev pub trace : Image → List Entry → ℕ → List ℕ
