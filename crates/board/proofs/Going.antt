@@ -14,7 +14,7 @@ use Rattle.written_machine.specs.Standing.{last_standing}
 use Rattle.written_machine.specs.State.{State}
 use Rattle.board.specs.declared.machine.Machine.{Machine}
 use Rattle.board.specs.declared.moment.Moment.{Moment}
-use Rattle.board.specs.internal.Sound.{Chained, IsInStep, IsSound, Keeps, LeadsTo, RunsTo, Stands, last_number, state_number}
+use Rattle.board.specs.internal.Sound.{Chained, IsInStep, IsSound, Keeps, LeadsTo, RunsTo, MachineStands, last_number, state_number}
 use Rattle.board.specs.internal.Standing.{Lasting, cut, mark_state, lasting_of, marked_of, marks_of, moment_state, state_of, states_at}
 use Rattle.board.proofs.Leading.{found_by_number, leads_number, none_numbered, some_numbered}
 use Rattle.board.proofs.MarkedStates.{chained_cut, chained_more, states_get, states_length, states_more, states_take}
@@ -117,7 +117,7 @@ mark_in_step m ts k t h live e = subst IsInStep (sym e) (h.steady k t live)
 
 -- a machine that stands at a mark
 pub stands_back : (m n : Machine) (ts : List Moment) (k : ℕ) (t : Moment) → Keeps m ts → k < length ts → t ≡ get_or ts k t →
-    state_of n ≡ mark_state (lasting_of m) k t → n.port.bus.ticks ≡ t.bus.ticks → Stands n
+    state_of n ≡ mark_state (lasting_of m) k t → n.port.bus.ticks ≡ t.bus.ticks → MachineStands n
 stands_back m n ts k t h live e is ticks = record {
   sound = subst IsSound (sym is) (mark_sound m ts k t h live e);
   in_step = λ runs. ticks ∙ mark_in_step m ts k t h live e (ap (λ (s : State). s.stop) (sym is) ∙ runs) ∙ ap (λ (s : State). s.cycle) (sym is);
@@ -138,7 +138,7 @@ cut_marked m n ts us k e items =
 
 -- some cycles after mark k
 pub keeps_cut : (j k : ℕ) (m n : Machine) (ts us : List Moment) → Keeps m ts → k < length ts → lasting_of n ≡ cut k (lasting_of m) → us ≡ take (k + 1) ts →
-    state_of n ≡ after_cycles (get_or (marks_of m ts) k (state_of m)) j → Stands n → n.cycle + one_if (is_some n.stop) ≤ 2 ^ 62 → Keeps n us
+    state_of n ≡ after_cycles (get_or (marks_of m ts) k (state_of m)) j → MachineStands n → n.cycle + one_if (is_some n.stop) ≤ 2 ^ 62 → Keeps n us
 keeps_cut j k m n ts us h live e items is stands number =
     let marks = cut_marks m n ts k e in
     let count = marks_length m ts h in

@@ -10,7 +10,7 @@ use Rattle.written_machine.specs.Cycle.{after_cycles, pc_of}
 use Rattle.written_machine.specs.Passing.{OnlyPass, Pads, Waits, WaitsOutside, Sleeps, Leads, phase_later, passed}
 use Rattle.written_machine.specs.Standing.{is_ready, is_resume, stands_at}
 use Rattle.written_machine.specs.State.{State}
-use Rattle.board.specs.internal.Ran.{Apart}
+use Rattle.board.specs.internal.Ran.{StandsNotAt}
 
 -- no cycle at all
 pub none_pass : (s : State) → OnlyPass 0 s
@@ -86,5 +86,5 @@ module _ (law : (s : State) (n m : ℕ) → s.stop ≡ None → OnlyPass n s →
       sleeping m (omega (arith, few)) e ∙ both_off (stands_at addr s) (stands_at addr (after_cycles s n)) (sleeping n (omega arith) e) ends
 
   -- where it stands there neither before nor after them, it stands there at no time between
-  pub missed_none : (stands_at addr s && stands_at addr (after_cycles s n)) ≡ false → Apart addr n s
+  pub missed_none : (stands_at addr s && stands_at addr (after_cycles s n)) ≡ false → StandsNotAt addr n s
   missed_none = by_case only

@@ -8,7 +8,7 @@ use Rattle.written_machine.specs.State.{State}
 use Rattle.isolation.proofs.Tame.{cycle_number}
 use Rattle.board.specs.declared.machine.Machine.{Machine}
 use Rattle.board.specs.declared.moment.Moment.{Moment}
-use Rattle.board.specs.internal.Sound.{Chained, IsSound, Keeps, Stands}
+use Rattle.board.specs.internal.Sound.{Chained, IsSound, Keeps, MachineStands}
 use Rattle.board.specs.internal.Standing.{Lasting, lasting_of, marked_of, marks_of, state_of, states_at}
 use Rattle.board.proofs.Leading.{stop_number}
 use Rattle.board.proofs.MarkedStates.{chained_on}
@@ -25,7 +25,7 @@ marked_same m n ts g seen e =
     ∙ ap (λ (x : Marked). at_state x (state_of n)) seen
 
 -- some cycles later
-pub keeps_on : (k : ℕ) (m n : Machine) (ts : List Moment) → Keeps m ts → state_of n ≡ after_cycles (state_of m) k → Stands n → n.cycle + one_if (is_some n.stop) ≤ 2 ^ 62 →
+pub keeps_on : (k : ℕ) (m n : Machine) (ts : List Moment) → Keeps m ts → state_of n ≡ after_cycles (state_of m) k → MachineStands n → n.cycle + one_if (is_some n.stop) ≤ 2 ^ 62 →
     lasting_of n ≡ lasting_of m → Keeps n ts
 keeps_on k m n ts h is stands number e = record {
   stands = stands;

@@ -18,7 +18,7 @@ use Rattle.cpu_step.specs.Plan.{plan}
 use Rattle.cpu_step.specs.Through.{After as AfterThrough, through}
 use Rattle.board.specs.declared.machine.Machine.{Machine}
 use Rattle.board.specs.declared.port.Surroundings.{Surroundings}
-use Rattle.board.specs.internal.Standing.{Lasting, lasting_of, port_of, answered, after_read as after_port_read, after_write}
+use Rattle.board.specs.internal.Standing.{Lasting, lasting_of, port_in, answered, after_port_read, after_port_write}
 use Rattle.board.proofs.Through.{through_is}
 use Rattle.written_machine.specs.Ports.{Port, read_byte, read_in, read_width, take_reads, write_byte, write_in, write_width, put_writes}
 use Rattle.devices.proofs.Acting.{scheduled-schedule, counts_by-schedule}
@@ -110,10 +110,10 @@ port_lasting m p q schedule marked room =
     ∙ ap (λ (n : ℕ). let l = lasting_of (record m { port = p }) in let r : Lasting = record { fixed = l.fixed; marked = l.marked; room = n } in r) room
 
 -- an instruction
-pub executed_lasting : (insn : Insn) (core : List ℕ) (inside : Bool) (m : Machine) (q : Surroundings) → q ≡ (through answered after_port_read after_write insn core inside m.port).state →
+pub executed_lasting : (insn : Insn) (core : List ℕ) (inside : Bool) (m : Machine) (q : Surroundings) → q ≡ (through answered after_port_read after_port_write insn core inside m.port).state →
     lasting_of (record m { port = q }) ≡ lasting_of m
 executed_lasting insn core inside m q e =
-    let g = take_reads (port_of m.port) (reads_of (plan insn core)) in
+    let g = take_reads (port_in m.port) (reads_of (plan insn core)) in
     let d = does insn core g.value inside in
     ap (λ (r : Surroundings). lasting_of (record m { port = r })) (e ∙ ap (λ (t : AfterThrough Surroundings). t.state) (through_is insn core inside m.port))
-    ∙ ap (at_schedule m) (writes_schedule g.port (writes_of (plan insn core)) d.stored ∙ reads_schedule (port_of m.port) (reads_of (plan insn core)))
+    ∙ ap (at_schedule m) (writes_schedule g.port (writes_of (plan insn core)) d.stored ∙ reads_schedule (port_in m.port) (reads_of (plan insn core)))

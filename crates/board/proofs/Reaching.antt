@@ -5,7 +5,7 @@ use Rattle.pc_access.specs.declared.Stop.{Stop}
 use Rattle.written_machine.specs.Cycle.{cycle, after_cycles}
 use Rattle.written_machine.specs.Standing.{stands_at, one_more_unless, cycles_until}
 use Rattle.written_machine.specs.State.{State}
-use Rattle.board.specs.internal.Ran.{Apart}
+use Rattle.board.specs.internal.Ran.{StandsNotAt}
 use Rattle.board.proofs.Runs.{state_split, stopped_state}
 
 -- a first cycle before others
@@ -13,10 +13,10 @@ after_first : (m : ℕ) (s : State) → after_cycles (cycle s).state m ≡ after
 after_first zero s = refl
 after_first (suc m) s = ap (λ (t : State). (cycle t).state) (after_first m s)
 
-apart_next : (addr n : ℕ) (s : State) → Apart addr (suc n) s → Apart addr n (cycle s).state
+apart_next : (addr n : ℕ) (s : State) → StandsNotAt addr (suc n) s → StandsNotAt addr n (cycle s).state
 apart_next addr n s apart m h = ap (stands_at addr) (after_first m s) ∙ apart (suc m) (omega (arith, h))
 
-here : (addr n : ℕ) (s : State) → Apart addr (suc n) s → stands_at addr s ≡ false
+here : (addr n : ℕ) (s : State) → StandsNotAt addr (suc n) s → stands_at addr s ≡ false
 here addr n s apart = apart 0 (omega arith)
 
 pub until_most : (addr n : ℕ) (s : State) → cycles_until addr s n ≤ n
@@ -28,7 +28,7 @@ until_most addr (suc n) s = by (stands_at addr s) (until_most addr n (cycle s).s
     by false h = omega (arith, h)
 
 -- it does not end while it is apart
-pub apart_within : (addr n most : ℕ) (s : State) → n ≤ most → Apart addr n s → n ≤ cycles_until addr s most
+pub apart_within : (addr n most : ℕ) (s : State) → n ≤ most → StandsNotAt addr n s → n ≤ cycles_until addr s most
 apart_within addr zero most s h apart = omega arith
 apart_within addr (suc n) zero s h apart = absurd (omega (arith, h))
 apart_within addr (suc n) (suc most) s h apart =
@@ -37,7 +37,7 @@ apart_within addr (suc n) (suc most) s h apart =
     omega (arith, more, next)
 
 -- it ends where it stands there
-pub until_there : (addr n most : ℕ) (s : State) → n ≤ most → Apart addr n s → stands_at addr (after_cycles s n) ≡ true → cycles_until addr s most ≡ n
+pub until_there : (addr n most : ℕ) (s : State) → n ≤ most → StandsNotAt addr n s → stands_at addr (after_cycles s n) ≡ true → cycles_until addr s most ≡ n
 until_there addr zero zero s h apart there = refl
 until_there addr zero (suc most) s h apart there = ap (λ c. one_more_unless c (cycles_until addr (cycle s).state most)) there
 until_there addr (suc n) zero s h apart there = absurd (omega (arith, h))
@@ -47,11 +47,11 @@ until_there addr (suc n) (suc most) s h apart there =
     omega (arith, more, next)
 
 -- or where all cycles passed
-pub until_never : (addr most : ℕ) (s : State) → Apart addr most s → cycles_until addr s most ≡ most
+pub until_never : (addr most : ℕ) (s : State) → StandsNotAt addr most s → cycles_until addr s most ≡ most
 until_never addr most s apart = omega (arith, until_most addr most s, apart_within addr most most s (omega arith) apart)
 
 -- one cycle more, and more cycles after it
-pub apart_then : (addr n k : ℕ) (s t : State) → Apart addr n s → stands_at addr (after_cycles s n) ≡ false → t ≡ after_cycles s (n + 1) → Apart addr k t → Apart addr (n + 1 + k) s
+pub apart_then : (addr n k : ℕ) (s t : State) → StandsNotAt addr n s → stands_at addr (after_cycles s n) ≡ false → t ≡ after_cycles s (n + 1) → StandsNotAt addr k t → StandsNotAt addr (n + 1 + k) s
 apart_then addr n k s t before now is more m h = by (cases_lt m n) (cases_lt n m)
   where
     by : (m < n) ⊎ (n ≤ m) → (n < m) ⊎ (m ≤ n) → stands_at addr (after_cycles s m) ≡ false
@@ -65,7 +65,7 @@ apart_then addr n k s t before now is more m h = by (cases_lt m n) (cases_lt n m
     by (inr high) (inr low) = let e : m ≡ n = omega (arith, high, low) in ap (λ k. stands_at addr (after_cycles s k)) e ∙ now
 
 -- a stopped machine comes to no other place
-pub apart_stopped : (addr n most : ℕ) (s t : State) → t ≡ after_cycles s n → is_some t.stop ≡ true → Apart addr n s → stands_at addr t ≡ false → Apart addr most s
+pub apart_stopped : (addr n most : ℕ) (s t : State) → t ≡ after_cycles s n → is_some t.stop ≡ true → StandsNotAt addr n s → stands_at addr t ≡ false → StandsNotAt addr most s
 apart_stopped addr n most s t is stopped before now m h = by t.stop refl stopped (cases_lt m n)
   where
     by : (o : Option Stop) → t.stop ≡ o → is_some o ≡ true → (m < n) ⊎ (n ≤ m) → stands_at addr (after_cycles s m) ≡ false

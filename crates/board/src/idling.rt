@@ -6,7 +6,7 @@ ghost use Rattle.reg_backup.specs.declared.backup.Phase.TheVariants.{Pad};
 ghost use Rattle.written_machine.specs.Passing.{Calm, Leads, OnlyPass, passed, asleep};
 ghost use Rattle.board.specs.internal.Ran.{NoneMissed};
 ghost use Rattle.board.specs.internal.Standing.{state_of, lasting_of};
-ghost use Rattle.board.specs.internal.Sound.{Stands};
+ghost use Rattle.board.specs.internal.Sound.{MachineStands};
 
 use crate::machine::Machine;
 use devices::Device;
@@ -18,10 +18,10 @@ impl Machine {
     #[inline(always)]
     pub fn pass_idle(&mut self, most: u64) -> u64
         requires number { self.old.cycle + most ≤ 2 ^ 62 }
-        requires stands { Stands self.old }
+        requires stands { MachineStands self.old }
         ensures most { result ≤ most }
         ensures leads { Leads result (state_of self.old) (state_of self.new) }
-        ensures stands { Stands self.new }
+        ensures stands { MachineStands self.new }
         ensures number { self.new.cycle ≡ self.old.cycle + result }
         ensures stop { self.new.stop ≡ self.old.stop }
         ensures missed { NoneMissed result (state_of self.old) (state_of self.new) }
@@ -41,7 +41,7 @@ impl Machine {
 
     /// For how many of the next cycles nothing surely begins or arrives.
     fn idle_cycles(&self) -> u64
-        requires { Stands self.now }
+        requires { MachineStands self.now }
         ensures pass { OnlyPass result (state_of self.now) }
         ensures runs { 0 < result → self.now.stop ≡ None }
     {

@@ -29,7 +29,7 @@ pub struct Moment {
 }
 
 impl Machine {
-    ghost use Rattle.board.specs.internal.Sound.{last_number, IsInStep, IsSound, LeadsTo, RunsTo, Stands};
+    ghost use Rattle.board.specs.internal.Sound.{last_number, IsInStep, IsSound, LeadsTo, RunsTo, MachineStands};
     ghost use Rattle.board.specs.internal.Standing.{cut, lasting_of, mark_state, moment_state, state_of};
 
     /// This moment.
@@ -105,10 +105,10 @@ impl Machine {
     /// Goes to cycle `end`.
     pub fn pass_to(&mut self, end: u64)
         requires number { end ≤ 2 ^ 62 }
-        requires stands { Stands self.old }
+        requires stands { MachineStands self.old }
         requires runs { RunsTo end (state_of self.old) }
         ensures state { state_of self.new ≡ after_cycles (state_of self.old) (end - self.old.cycle) }
-        ensures stands { Stands self.new }
+        ensures stands { MachineStands self.new }
         ensures lasting { lasting_of self.new ≡ lasting_of self.old }
     {
         while self.cycle < end {
@@ -124,11 +124,11 @@ impl Machine {
     /// the last of them too.
     pub fn last_before(&mut self, addr: u16, end: u64) -> Option<u64>
         requires number { end ≤ 2 ^ 62 }
-        requires stands { Stands self.old }
+        requires stands { MachineStands self.old }
         requires runs { RunsTo end (state_of self.old) }
         ensures last { result ≡ last_number addr (state_of self.old) end }
         ensures state { state_of self.new ≡ after_cycles (state_of self.old) (end - self.old.cycle) }
-        ensures stands { Stands self.new }
+        ensures stands { MachineStands self.new }
         ensures lasting { lasting_of self.new ≡ lasting_of self.old }
     {
         let mut last = None;
@@ -153,7 +153,7 @@ impl Machine {
         requires leads { LeadsTo (mark_state (lasting_of self.old) k moment.now) (state_of self.old) }
         ensures last { result ≡ last_number addr (mark_state (lasting_of self.old) k moment.now) self.old.cycle }
         ensures state { state_of self.new ≡ state_of self.old }
-        ensures stands { Stands self.new }
+        ensures stands { MachineStands self.new }
         ensures lasting { lasting_of self.new ≡ lasting_of self.old }
     {
         let end = self.cycle;
@@ -174,7 +174,7 @@ impl Machine {
         requires in_step { IsInStep moment.now }
         requires runs { RunsTo end (mark_state (lasting_of self.old) k moment.now) }
         ensures state { let s = mark_state (lasting_of self.old) k moment.now in state_of self.new ≡ after_cycles s (end - s.cycle) }
-        ensures stands { Stands self.new }
+        ensures stands { MachineStands self.new }
         ensures lasting { lasting_of self.new ≡ cut k (lasting_of self.old) }
     {
         self.back(k, moment);

@@ -6,7 +6,7 @@ ghost use Rattle.written_machine.specs.Passing.{Leads};
 ghost use Rattle.written_machine.specs.Standing.{cycles_until};
 ghost use Rattle.board.specs.Alike.{PeersRun};
 ghost use Rattle.board.specs.Ran.{Runs};
-ghost use Rattle.board.specs.internal.Ran.{Apart};
+ghost use Rattle.board.specs.internal.Ran.{StandsNotAt};
 
 use crate::board::put_lines;
 use crate::{Board, Ran};
@@ -56,7 +56,7 @@ impl Board {
         requires { self.old.present.cycle + most ≤ 2 ^ 62 }
         ensures most { result ≤ most }
         ensures leads { Leads result self.old.present self.new.present }
-        ensures apart { Apart addr result self.old.present }
+        ensures apart { StandsNotAt addr result self.old.present }
         ensures number { self.new.present.cycle ≤ self.old.present.cycle + result }
         ensures marks { self.new ≡ at_state self.old self.new.present }
     {

@@ -6,7 +6,7 @@ use Rattle.written_machine.specs.Standing.{stands_at, cycles_until}
 use Rattle.written_machine.specs.State.{State}
 use Rattle.board.specs.declared.Ran.TheVariants.{SinkFailed}
 use Rattle.board.specs.Ran.{RanWhole}
-use Rattle.board.specs.internal.Ran.{Apart}
+use Rattle.board.specs.internal.Ran.{StandsNotAt}
 use Rattle.board.proofs.Runs.{cut_after, ended_runs, ran_on, state_more, stopped_early}
 use Rattle.board.proofs.Reaching.{apart_then, apart_stopped, apart_within, until_there, until_never}
 use Rattle.board.proofs.Seen.{peers_run}
@@ -45,7 +45,7 @@ returns-in-Err-clause-ran g c =
     let s = c.args.self.now.present in
     let u = cycles_until c.args.addr s c.args.most in
     let elsewhere : stands_at c.args.addr (after_cycles s n) ≡ false = sym (ap (stands_at c.args.addr) {y = after_cycles s n} i.state) ∙ sym c.stands_at.ensures.stands ∙ c.if-stands_at.false in
-    let before : Apart c.args.addr (n + 1 + 0) s = apart_then c.args.addr n 0 s (after_cycles s (n + 1)) i.apart elsewhere refl (λ m h. absurd (omega (arith, h))) in
+    let before : StandsNotAt c.args.addr (n + 1 + 0) s = apart_then c.args.addr n 0 s (after_cycles s (n + 1)) i.apart elsewhere refl (λ m h. absurd (omega (arith, h))) in
     let next = apart_within c.args.addr (n + 1 + 0) c.args.most s (omega (arith, i.within, c.loop-left-test.true)) before in
     let within : n < u = omega (arith, next) in
     cut_after g.S.Sink.taken g.S.Sink.faults g.S.Sink.sure n u s c.loop-left.self.present c.step.new.self.present c.self.inside.machine.cycle c.as_slice.result.now c.args.sink.now c.loop-left.sink c.put_lines.new.sink
@@ -57,7 +57,7 @@ returns-clause-ran g c =
     let i = c.loop-left.invariant in
     let s = c.args.self.now.present in
     let all : c.args.most - c.loop-left.left ≡ c.args.most = omega arith in
-    let apart = subst (λ n. Apart c.args.addr n s) all i.apart in
+    let apart = subst (λ n. StandsNotAt c.args.addr n s) all i.apart in
     let met = until_never c.args.addr c.args.most s apart in
     let whole = subst (λ n. RanWhole g.S.Sink.taken g.S.Sink.faults g.S.Sink.sure n s c.loop-left.self.present c.args.sink.now c.loop-left.sink) (all ∙ sym met) record { state = i.state; lines = i.lines } in
     ended_runs g.S.Sink.taken g.S.Sink.faults g.S.Sink.sure (cycles_until c.args.addr s c.args.most) s c.loop-left.self.present c.args.sink.now c.loop-left.sink _ whole c.ended-2.ensures.ended
@@ -95,7 +95,7 @@ loop-left-preserved g c =
       within = omega (arith, i.within);
       state = ran.state;
       lines = ran.lines;
-      apart = subst (λ n. Apart c.args.addr n s) done (apart_then c.args.addr n k s c.step.new.self.present i.apart elsewhere next c.pass_apart-left.ensures.apart);
+      apart = subst (λ n. StandsNotAt c.args.addr n s) done (apart_then c.args.addr n k s c.step.new.self.present i.apart elsewhere next c.pass_apart-left.ensures.apart);
       number = omega (arith, i.number, i.within, c.loop-left-test.true, c.step.ensures.number, c.pass_apart-left.ensures.number, c.pass_apart-left.ensures.most);
       marks = c.pass_apart-left.ensures.marks ∙ ap (λ (g : Marked). at_state g c.pass_apart-left.new.self.present) (c.step.ensures.marks ∙ ap (λ (g : Marked). at_state g c.step.new.self.present) i.marks);
     }

@@ -1,7 +1,7 @@
 use Rattle.std.proofs.Common.{◌≡◌, ◌-◌, ◌≤◌, false}
 use Rattle.written_machine.specs.Cycle.{after_cycles}
 use Rattle.written_machine.specs.Standing.{stands_at, last_standing}
-use Rattle.board.specs.internal.Sound.{Stands, state_number}
+use Rattle.board.specs.internal.Sound.{MachineStands, state_number}
 use Rattle.board.specs.internal.Standing.{state_of, lasting_of}
 use Rattle.board.proofs.machine.Machine.last_before.Given as goal
 
@@ -13,7 +13,7 @@ invariant-loop-self l = record {
   state : state_of l.self ≡ after_cycles (state_of l.initial.self) (l.self.cycle - l.initial.self.cycle);
   apart : stands_at l.addr (state_of l.self) ≡ false → l.last ≡ state_number (last_standing l.addr (state_of l.initial.self) (l.self.cycle - l.initial.self.cycle));
   ended : l.self.cycle ≡ l.end → l.last ≡ state_number (last_standing l.addr (state_of l.initial.self) (l.self.cycle - l.initial.self.cycle));
-  stands : Stands l.self;
+  stands : MachineStands l.self;
   lasting : lasting_of l.self ≡ lasting_of l.initial.self;
 }
 
