@@ -8,7 +8,7 @@ use Rattle.flow_rule.specs.declared.Val.TheVariants.{Known, Away, Public, Secret
 use Rattle.flow_rule.specs.declared.Label.{Label}
 use Rattle.flow_rule.specs.Values.{join, join_each}
 use Rattle.flow_rule.specs.Absorbs.{Absorbs}
-use Rattle.flow_rule.specs.Rounds.{Pair, Point, Step, same_pair, join_label, join_in, join_all, given_by, given, round, rounds, IsLabelling}
+use Rattle.flow_rule.specs.Rounds.{Pair, Point, FlowStep, same_pair, join_label, join_in, join_all, given_by, given_points, round, rounds, IsLabelling}
 use Rattle.flow_check.specs.declared.labelling.Node.{Node}
 use Rattle.flow_check.specs.internal.Points.{point_at, points_of}
 use Rattle.flow_check.proofs.Joins.{join_own}
@@ -136,22 +136,22 @@ join_append [] zs ys = refl
 join_append (x ∷ xs) zs ys = join_append xs zs (join_in x ys)
 
 -- ---- the same of those that changed
-clean_stays : (step : Point → Step) (ns : List Node) (zs ys : List Point) → Clean step ns ys → Clean step ns (join_all zs ys)
+clean_stays : (step : Point → FlowStep) (ns : List Node) (zs ys : List Point) → Clean step ns ys → Clean step ns (join_all zs ys)
 clean_stays step [] zs ys h = tt
 clean_stays step (n ∷ ns) zs ys h = ((λ e. stay_more (given_by (step (point_at n.point))) zs ys (h.0 e)), clean_stays step ns zs ys h.1)
 
 -- an iteration needs those alone
-flagged_round : (step : Point → Step) (ns : List Node) (ys : List Point) → Clean step ns ys → join_all (given step (points_of ns)) ys ≡ join_all (given step (flagged ns)) ys
+flagged_round : (step : Point → FlowStep) (ns : List Node) (ys : List Point) → Clean step ns ys → join_all (given_points step (points_of ns)) ys ≡ join_all (given_points step (flagged ns)) ys
 flagged_round step [] ys h = refl
-flagged_round step (n ∷ ns) ys h = join_append gs (given step (points_of ns)) ys ∙ by n.changed refl (flagged_round step ns)
+flagged_round step (n ∷ ns) ys h = join_append gs (given_points step (points_of ns)) ys ∙ by n.changed refl (flagged_round step ns)
   where
     gs : List Point
     gs = given_by (step (point_at n.point))
 
-    by : (c : Bool) → n.changed ≡ c → ((ys : List Point) → Clean step ns ys → join_all (given step (points_of ns)) ys ≡ join_all (given step (flagged ns)) ys) →
-        join_all (given step (points_of ns)) (join_all gs ys) ≡ join_all (given step (cond c (point_at n.point ∷ flagged ns) (flagged ns))) ys
-    by true e go = go (join_all gs ys) (clean_stays step ns gs ys h.1) ∙ sym (join_append gs (given step (flagged ns)) ys)
-    by false e go = ap (λ i. join_all (given step (points_of ns)) i) (subsumed_all gs ys (h.0 e)) ∙ go ys h.1
+    by : (c : Bool) → n.changed ≡ c → ((ys : List Point) → Clean step ns ys → join_all (given_points step (points_of ns)) ys ≡ join_all (given_points step (flagged ns)) ys) →
+        join_all (given_points step (points_of ns)) (join_all gs ys) ≡ join_all (given_points step (cond c (point_at n.point ∷ flagged ns) (flagged ns))) ys
+    by true e go = go (join_all gs ys) (clean_stays step ns gs ys h.1) ∙ sym (join_append gs (given_points step (flagged ns)) ys)
+    by false e go = ap (λ i. join_all (given_points step (points_of ns)) i) (subsumed_all gs ys (h.0 e)) ∙ go ys h.1
 
 joined_subsumes : (xs ys : List Point) → AllSubsumed xs (join_all xs ys)
 joined_subsumes [] ys = tt
@@ -166,18 +166,18 @@ IsOne x [] = ⊥
 IsOne x (y ∷ ys) = (y ≡ x) ⊎ IsOne x ys
 
 -- what a stepped program point gave is subsumed after the iteration
-pub stepped_subsumed : (step : Point → Step) (front ys : List Point) (x : Point) → IsOne x front → AllSubsumed (given_by (step x)) (join_all (given step front) ys)
+pub stepped_subsumed : (step : Point → FlowStep) (front ys : List Point) (x : Point) → IsOne x front → AllSubsumed (given_by (step x)) (join_all (given_points step front) ys)
 stepped_subsumed step [] ys x h = absurd h
 stepped_subsumed step (y ∷ front) ys x (inl e) =
-    subst (λ z. AllSubsumed (given_by (step x)) z) (sym (join_append (given_by (step y)) (given step front) ys))
-    (stay_more (given_by (step x)) (given step front) (join_all (given_by (step y)) ys)
+    subst (λ z. AllSubsumed (given_by (step x)) z) (sym (join_append (given_by (step y)) (given_points step front) ys))
+    (stay_more (given_by (step x)) (given_points step front) (join_all (given_by (step y)) ys)
     (subst (λ z. AllSubsumed (given_by (step z)) (join_all (given_by (step y)) ys)) e (joined_subsumes (given_by (step y)) ys)))
 stepped_subsumed step (y ∷ front) ys x (inr h) =
-    subst (λ z. AllSubsumed (given_by (step x)) z) (sym (join_append (given_by (step y)) (given step front) ys)) (stepped_subsumed step front (join_all (given_by (step y)) ys) x h)
+    subst (λ z. AllSubsumed (given_by (step x)) z) (sym (join_append (given_by (step y)) (given_points step front) ys)) (stepped_subsumed step front (join_all (given_by (step y)) ys) x h)
 
 -- ---- an iteration
-clean_go : (step : Point → Step) (front start : List Point) (ns ms : List Node) → Clean step ns start → Kept (points_of ns) ms → ((z : Point) → IsOne z (flagged ns) → IsOne z front) →
-    Clean step ms (join_all (given step front) start)
+clean_go : (step : Point → FlowStep) (front start : List Point) (ns ms : List Node) → Clean step ns start → Kept (points_of ns) ms → ((z : Point) → IsOne z (flagged ns) → IsOne z front) →
+    Clean step ms (join_all (given_points step front) start)
 clean_go step front start [] [] c k h = tt
 clean_go step front start (n ∷ ns) [] c k h = absurd k
 clean_go step front start [] (m ∷ ms) c k h = ((λ e. absurd (both_ways m.changed e k.0)), clean_go step front start [] ms tt k.1 (λ z i. absurd i))
@@ -186,26 +186,26 @@ clean_go step front start (n ∷ ns) (m ∷ ms) c k h = by n.changed refl h (cle
     x : Point
     x = point_at n.point
 
-    one : AllSubsumed (given_by (step x)) (join_all (given step front) start) → m.changed ≡ false → AllSubsumed (given_by (step (point_at m.point))) (join_all (given step front) start)
-    one a e = subst (λ z. AllSubsumed (given_by (step z)) (join_all (given step front) start)) (sym (k.0 e)) a
+    one : AllSubsumed (given_by (step x)) (join_all (given_points step front) start) → m.changed ≡ false → AllSubsumed (given_by (step (point_at m.point))) (join_all (given_points step front) start)
+    one a e = subst (λ z. AllSubsumed (given_by (step z)) (join_all (given_points step front) start)) (sym (k.0 e)) a
 
     by : (b : Bool) → n.changed ≡ b → ((z : Point) → IsOne z (cond b (x ∷ flagged ns) (flagged ns)) → IsOne z front) →
-        (((z : Point) → IsOne z (flagged ns) → IsOne z front) → Clean step ms (join_all (given step front) start)) → Clean step (m ∷ ms) (join_all (given step front) start)
+        (((z : Point) → IsOne z (flagged ns) → IsOne z front) → Clean step ms (join_all (given_points step front) start)) → Clean step (m ∷ ms) (join_all (given_points step front) start)
     by true e h go = (one (stepped_subsumed step front start x (h x (inl refl))), go (λ z i. h z (inr i)))
-    by false e h go = (one (stay_more (given_by (step x)) (given step front) start (c.0 e)), go h)
+    by false e h go = (one (stay_more (given_by (step x)) (given_points step front) start (c.0 e)), go h)
 
-module _ (step : Point → Step) (start : Point) (ns cs : List Node) (front : List Point) (r : Reached step start ns) (f : front ≡ flagged ns) (same : points_of cs ≡ points_of ns)
+module _ (step : Point → FlowStep) (start : Point) (ns cs : List Node) (front : List Point) (r : Reached step start ns) (f : front ≡ flagged ns) (same : points_of cs ≡ points_of ns)
   where
     -- what those that changed give makes the next round
-    to_round : join_all (given step front) (points_of cs) ≡ round step (points_of ns)
-    to_round = ap (λ p. join_all (given step front) p) same ∙ ap (λ g. join_all (given step g) (points_of ns)) f ∙ sym (flagged_round step ns (points_of ns) r.clean)
+    to_round : join_all (given_points step front) (points_of cs) ≡ round step (points_of ns)
+    to_round = ap (λ p. join_all (given_points step front) p) same ∙ ap (λ g. join_all (given_points step g) (points_of ns)) f ∙ sym (flagged_round step ns (points_of ns) r.clean)
 
     -- one iteration more
-    pub reached_more : (ms : List Node) → points_of ms ≡ join_all (given step front) (points_of cs) → Kept (points_of cs) ms → Reached step start ms
+    pub reached_more : (ms : List Node) → points_of ms ≡ join_all (given_points step front) (points_of cs) → Kept (points_of cs) ms → Reached step start ms
     reached_more ms e k = record {
       turns = suc r.turns;
       is = e ∙ to_round ∙ ap (round step) r.is;
-      clean = subst (λ z. Clean step ms z) (sym (e ∙ ap (λ p. join_all (given step front) p) same ∙ ap (λ g. join_all (given step g) (points_of ns)) f))
+      clean = subst (λ z. Clean step ms z) (sym (e ∙ ap (λ p. join_all (given_points step front) p) same ∙ ap (λ g. join_all (given_points step g) (points_of ns)) f))
           (clean_go step (flagged ns) (points_of ns) ns ms r.clean (subst (λ p. Kept p ms) same k) (λ z i. i));
     }
 
@@ -214,9 +214,9 @@ module _ (step : Point → Step) (start : Point) (ns cs : List Node) (front : Li
     reached_rests none = subst (IsLabelling step start) (sym same) record {
       rounds_to = r.turns;
       is = sym r.is;
-      stays = sym to_round ∙ ap (λ g. join_all (given step g) (points_of cs)) none ∙ same;
+      stays = sym to_round ∙ ap (λ g. join_all (given_points step g) (points_of cs)) none ∙ same;
     }
 
     -- where there are too many
-    pub reached_many : 16384 < length (join_all (given step front) (points_of cs)) → (n : ℕ) × (16384 < length (rounds step start n))
+    pub reached_many : 16384 < length (join_all (given_points step front) (points_of cs)) → (n : ℕ) × (16384 < length (rounds step start n))
     reached_many many = (suc r.turns, subst (λ l. 16384 < length l) (to_round ∙ ap (round step) r.is) many)

@@ -12,7 +12,7 @@ use Rattle.flow_rule.specs.declared.Val.{Val}
 use Rattle.flow_rule.specs.declared.Label.{Label}
 use Rattle.flow_rule.specs.declared.Reason.TheVariants.{Arm as ArmInsn}
 use Rattle.flow_rule.specs.Reasons.{because_if}
-use Rattle.flow_rule.specs.Rounds.{Found, Point, Step, given_by}
+use Rattle.flow_rule.specs.Rounds.{Found, Point, FlowStep, given_by}
 use Rattle.flow_rule.specs.Arms.{Walk, blot, arm_reasons}
 use Rattle.flow_rule.specs.Absorbs.{Absorbs, ArmsRest}
 use Rattle.flow_check.specs.declared.branch.BranchSite.{BranchSite}
@@ -93,12 +93,12 @@ walked_open p c pc r l told0 told least er eb el et e =
 -- ---- the step of a program point
 
 -- a branch without a reason
-pub site_successors : (p : Program) (c : BranchSite) (x : Point) (s : Step) (l : Label) → s ≡ flow_at p c x → l ≡ clobbered p c x x.label → s.gives ≡ points_at (addrs_of s.gives) x.pair.returns l
+pub site_successors : (p : Program) (c : BranchSite) (x : Point) (s : FlowStep) (l : Label) → s ≡ flow_at p c x → l ≡ clobbered p c x x.label → s.gives ≡ points_at (addrs_of s.gives) x.pair.returns l
 site_successors p c x s l same e =
     subst (λ s. s.gives ≡ points_at (addrs_of s.gives) x.pair.returns l) (sym same) (ap (λ l. points_at (c.arm.join ∷ []) x.pair.returns l) (sym e))
 
 -- one with a reason
-pub stirred : (s t : Step) → s ≡ t → t.reasons ≢ [] → given_by s ≡ []
+pub stirred : (s t : FlowStep) → s ≡ t → t.reasons ≢ [] → given_by s ≡ []
 stirred s t e h = ap given_by e ∙ by t.reasons h
   where
     by : (rs : List Found) → rs ≢ [] → given_by (record { reasons = rs; gives = t.gives }) ≡ []

@@ -2,7 +2,7 @@
 use Rattle.std.proofs.Common.{◌≡◌, ℕ, List, [], ◌∷◌, refl, sym, ap, ◌∙◌, Bool, true, false, Option, Some, None, is_some}
 use Rattle.flow_check.proofs.Iterating.{join_append}
 use Rattle.flow_rule.specs.declared.Label.{Label}
-use Rattle.flow_rule.specs.Rounds.{Found, Step, Point, join_all, given_by, given}
+use Rattle.flow_rule.specs.Rounds.{Found, FlowStep, Point, join_all, given_by, given_points}
 use Rattle.flow_check.specs.declared.violation.Violation.{Violation}
 use Rattle.flow_check.specs.internal.Violations.{lesser, lesser_if, noted, violation_of}
 use Rattle.flow_check.specs.internal.Points.{addrs_of, points_at}
@@ -36,14 +36,14 @@ none_found (r ∷ rs) e = absurd (by (noted rs (Some (violation_of r))) (noted_s
     by None h e = h
     by (Some c) h e = cc
 
-pub some_found : (rs : List Found) (c : Violation) → noted rs None ≡ Some c → (s : Step) → s.reasons ≡ rs → given_by s ≡ []
+pub some_found : (rs : List Found) (c : Violation) → noted rs None ≡ Some c → (s : FlowStep) → s.reasons ≡ rs → given_by s ≡ []
 some_found rs c e s f = by s.reasons (ap (λ x. noted x None) f ∙ e)
   where
     by : (xs : List Found) → noted xs None ≡ Some c → given_by (record { reasons = xs; gives = s.gives }) ≡ []
     by [] e = absurd cc
     by (x ∷ xs) e = refl
 
-successors_all : (s : Step) → s.reasons ≡ [] → given_by s ≡ s.gives
+successors_all : (s : FlowStep) → s.reasons ≡ [] → given_by s ≡ s.gives
 successors_all s e = by s.reasons e
   where
     by : (xs : List Found) → xs ≡ [] → given_by (record { reasons = xs; gives = s.gives }) ≡ s.gives
@@ -51,16 +51,16 @@ successors_all s e = by s.reasons e
     by (x ∷ xs) e = absurd cc
 
 -- a program point without a reason
-pub give_some : (step : Point → Step) (x : Point) (more : List Point) (ts rs : List ℕ) (l : Label) (ps qs : List Point) → (step x).reasons ≡ [] → ts ≡ addrs_of (step x).gives →
+pub give_some : (step : Point → FlowStep) (x : Point) (more : List Point) (ts rs : List ℕ) (l : Label) (ps qs : List Point) → (step x).reasons ≡ [] → ts ≡ addrs_of (step x).gives →
     ((step x).reasons ≡ [] → (step x).gives ≡ points_at (addrs_of (step x).gives) rs l) → qs ≡ join_all (points_at ts rs l) ps →
-    join_all (given step (x ∷ more)) ps ≡ join_all (given step more) qs
+    join_all (given_points step (x ∷ more)) ps ≡ join_all (given_points step more) qs
 give_some step x more ts rs l ps qs calm et eg eq =
-    join_append (given_by (step x)) (given step more) ps
-    ∙ ap (λ g. join_all (given step more) (join_all g ps)) (successors_all (step x) calm ∙ eg calm ∙ sym (ap (λ t. points_at t rs l) et))
-    ∙ ap (join_all (given step more)) (sym eq)
+    join_append (given_by (step x)) (given_points step more) ps
+    ∙ ap (λ g. join_all (given_points step more) (join_all g ps)) (successors_all (step x) calm ∙ eg calm ∙ sym (ap (λ t. points_at t rs l) et))
+    ∙ ap (join_all (given_points step more)) (sym eq)
 
 -- a program point with one
-pub give_none : (step : Point → Step) (x : Point) (more : List Point) (ps : List Point) → given_by (step x) ≡ [] →
-    join_all (given step (x ∷ more)) ps ≡ join_all (given step more) ps
+pub give_none : (step : Point → FlowStep) (x : Point) (more : List Point) (ps : List Point) → given_by (step x) ≡ [] →
+    join_all (given_points step (x ∷ more)) ps ≡ join_all (given_points step more) ps
 give_none step x more ps e =
-    join_append (given_by (step x)) (given step more) ps ∙ ap (λ g. join_all (given step more) (join_all g ps)) e
+    join_append (given_by (step x)) (given_points step more) ps ∙ ap (λ g. join_all (given_points step more) (join_all g ps)) e

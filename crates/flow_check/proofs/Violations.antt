@@ -12,14 +12,14 @@ use Rattle.flow_rule.specs.declared.Reason.TheVariants.{SecretAtExit, DataAtExit
 use Rattle.std.proofs.lemmas.Bool.Decides.{nat_tests}
 use Rattle.flow_rule.specs.declared.Val.TheVariants.{Public, Secret}
 use Rattle.flow_rule.specs.declared.Reason.TheVariants.{Illegal, UnknownTarget, SecretBranch, Unit as UnitWord}
-use Rattle.flow_rule.specs.Rounds.{Found, Step, Point}
+use Rattle.flow_rule.specs.Rounds.{Found, FlowStep, Point}
 use Rattle.flow_rule.specs.Values.{is_secret, val, put_val}
 use Rattle.arm_balance.specs.Met.{text_byte}
 use Rattle.flow_rule.specs.Does.{word_no, past_val, does_val, writes_val}
 use Rattle.flow_rule.specs.Reasons.{exit_reasons, word_reasons, reach_reasons, reach_reasons_by, because, because_if}
 use Rattle.flow_rule.specs.Going.{goes, also, both, fails}
 use Rattle.flow_rule.specs.Steps.{step_jump, step_unit, step_insn, step_of}
-use Rattle.flow_rule.specs.Stub.{shut_reasons, shut_if, is_shut, is_open, word_number, step_stub, step_entries, to_entries, word_of}
+use Rattle.flow_rule.specs.Stub.{shut_reasons, shut_if, is_shut, is_open, word_number, step_stub, step_entries, to_entries, text_word}
 use Rattle.flow_check.specs.declared.violation.Violation.{Violation}
 use Rattle.flow_check.specs.internal.Violations.{lesser, noted, shut_at, entry_addrs}
 use Rattle.flow_check.specs.internal.Points.{addrs_of}
@@ -76,10 +76,10 @@ pub both_addrs : (xs ys : List Point) (t0 t1 t2 : List ℕ) → t1 ≡ t0 ++ add
 both_addrs xs ys t0 t1 t2 e1 e2 =
     e2 ∙ ap (λ l. l ++ addrs_of ys) e1 ∙ append_assoc t0 (addrs_of xs) (addrs_of ys) ∙ ap (λ l. t0 ++ l) (sym (addrs_append xs ys))
 
-abbrev taken_to : Terms → Module → Insn → Point → Step
+abbrev taken_to : Terms → Module → Insn → Point → FlowStep
 taken_to terms m insn x = goes terms m x.pair.addr x.pair.returns (does_val insn x.pair.addr x.label.core []).core x.label.words
 
-abbrev either_way : Terms → Module → Insn → Point → Step
+abbrev either_way : Terms → Module → Insn → Point → FlowStep
 either_way terms m insn x =
     also (because_if (is_secret (val x.label.core 2)) x.pair.addr SecretBranch 0)
     (both (taken_to terms m insn x) (goes terms m x.pair.addr x.pair.returns (past_val insn x.pair.addr x.label.core) x.label.words))
@@ -108,7 +108,7 @@ shut_same m pc (x ∷ gs) = ap (λ rs. because_if (is_shut (word_number m x.pair
 pub shut_more : (m : Module) (pc a : ℕ) (more : List ℕ) (o p : Option Violation) → p ≡ noted (because_if (is_shut (word_number m a)) pc UnknownTarget 0) o → noted (shut_at m pc (a ∷ more)) o ≡ noted (shut_at m pc more) p
 shut_more m pc a more o p e = noted_append (because_if (is_shut (word_number m a)) pc UnknownTarget 0) (shut_at m pc more) o ∙ ap (noted (shut_at m pc more)) (sym e)
 
-pub shut_after : (m : Module) (pc : ℕ) (s : Step) (ts : List ℕ) (o0 o1 o2 : Option Violation) → o1 ≡ noted s.reasons o0 → ts ≡ addrs_of s.gives → o2 ≡ noted (shut_at m pc ts) o1 →
+pub shut_after : (m : Module) (pc : ℕ) (s : FlowStep) (ts : List ℕ) (o0 o1 o2 : Option Violation) → o1 ≡ noted s.reasons o0 → ts ≡ addrs_of s.gives → o2 ≡ noted (shut_at m pc ts) o1 →
     o2 ≡ noted (s.reasons ++ shut_reasons m pc s.gives) o0
 shut_after m pc s ts o0 o1 o2 e1 et e2 =
     e2 ∙ ap (λ t. noted (shut_at m pc t) o1) et ∙ ap (λ rs. noted rs o1) (sym (shut_same m pc s.gives)) ∙ ap (noted (shut_reasons m pc s.gives)) e1 ∙ sym (noted_append s.reasons (shut_reasons m pc s.gives) o0)
@@ -130,10 +130,10 @@ entries_least m pc push ts o0 o1 o2 e1 e2 = e2 ∙ ap (noted ts) (sym e1) ∙ sy
 
 pub entries_addrs : (m : Module) (text : List ℕ) (n : ℕ) (rs : List ℕ) (core words : List Val) → addrs_of (to_entries m text n rs core words) ≡ entry_addrs m text n
 entries_addrs m text zero rs core words = refl
-entries_addrs m text (suc n) rs core words = ap (λ l. word_of m text (38 + n) ∷ l) (entries_addrs m text n rs core words)
+entries_addrs m text (suc n) rs core words = ap (λ l. text_word m text (38 + n) ∷ l) (entries_addrs m text n rs core words)
 
-pub entries_more : (m : Module) (text : List ℕ) (n k : ℕ) (ts us : List ℕ) → k < n → us ≡ ts ++ word_of m text (38 + (n - 1 - k)) ∷ [] → ts ++ entry_addrs m text (n - k) ≡ us ++ entry_addrs m text (n - (k + 1))
+pub entries_more : (m : Module) (text : List ℕ) (n k : ℕ) (ts us : List ℕ) → k < n → us ≡ ts ++ text_word m text (38 + (n - 1 - k)) ∷ [] → ts ++ entry_addrs m text (n - k) ≡ us ++ entry_addrs m text (n - (k + 1))
 entries_more m text n k ts us lt e =
     ap (λ j. ts ++ entry_addrs m text j) (let f : n - k ≡ suc (n - (k + 1)) = omega arith in f)
-    ∙ ap (λ j. ts ++ word_of m text (38 + j) ∷ entry_addrs m text (n - (k + 1))) (let f : n - (k + 1) ≡ n - 1 - k = omega arith in f)
-    ∙ sym (append_assoc ts (word_of m text (38 + (n - 1 - k)) ∷ []) (entry_addrs m text (n - (k + 1)))) ∙ ap (λ u. u ++ entry_addrs m text (n - (k + 1))) (sym e)
+    ∙ ap (λ j. ts ++ text_word m text (38 + j) ∷ entry_addrs m text (n - (k + 1))) (let f : n - (k + 1) ≡ n - 1 - k = omega arith in f)
+    ∙ sym (append_assoc ts (text_word m text (38 + (n - 1 - k)) ∷ []) (entry_addrs m text (n - (k + 1)))) ∙ ap (λ u. u ++ entry_addrs m text (n - (k + 1))) (sym e)

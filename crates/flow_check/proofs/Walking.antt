@@ -13,7 +13,7 @@ use Rattle.arm_balance.specs.Balance.{arm_on}
 use Rattle.arm_balance.specs.declared.Arm.{Arm}
 use Rattle.flow_rule.specs.declared.Label.{Label}
 use Rattle.flow_rule.specs.declared.Reason.TheVariants.{ArmTime}
-use Rattle.flow_rule.specs.Rounds.{Found, Point, Step}
+use Rattle.flow_rule.specs.Rounds.{Found, Point, FlowStep}
 use Rattle.flow_rule.specs.declared.Val.{Val}
 use Rattle.flow_rule.specs.declared.Val.TheVariants.{Secret}
 use Rattle.flow_rule.specs.Values.{is_secret, set_each, val}
@@ -120,7 +120,7 @@ successors_none gs (t ∷ ts) rs l et eg e = absurd cc
 -- ---- the step of a branch
 
 -- a step by its certificate
-pub site_is : (S : Point → Step) (arms : List Arm) (m : Module) (text : List ℕ) (x : Point) → step_arms S arms m text x ≡ step_at (site_by (met m.text text x.pair.addr) arms x.pair.addr (val x.label.core 2)) S m text x
+pub site_is : (S : Point → FlowStep) (arms : List Arm) (m : Module) (text : List ℕ) (x : Point) → step_arms S arms m text x ≡ step_at (site_by (met m.text text x.pair.addr) arms x.pair.addr (val x.label.core 2)) S m text x
 unfolding step_arms
 site_is S arms m text x = by (met m.text text x.pair.addr)
   where

@@ -3,7 +3,7 @@
 ghost use Rattle.std.specs.Prelude.{◌≡◌, ◌≤◌, ◌<◌, ◌++◌, ◌∷◌, [], length, true, nat_eq, nat_lt, not};
 ghost use Rattle.std.specs.Cmp.Lexicographic.{pointwise};
 ghost use Rattle.sm_words.specs.Words.{nth};
-ghost use Rattle.flow_rule.specs.Returns.{last_is, but_last};
+ghost use Rattle.flow_rule.specs.Returns.{last_is, without_newest};
 ghost use Rattle.flow_check.specs.internal.Carries.{is_known};
 ghost use Rattle.flow_check.specs.internal.Points.{list_of};
 
@@ -67,7 +67,7 @@ impl CallString {
     #[tactic(auto, using(crate::proofs::CallStrings::but_of, crate::proofs::CallStrings::last_of, crate::proofs::CallStrings::last_none, crate::proofs::CallStrings::but_none))]
     pub fn pop_is(&mut self, values: &[Val]) -> bool
         ensures is { result ≡ last_is (nth 0 values.now Val.Secret) (list_of self.old) }
-        ensures list { list_of self.new ≡ but_last (list_of self.old) }
+        ensures list { list_of self.new ≡ without_newest (list_of self.old) }
     {
         let count = self.len();
         if count == 0 {

@@ -4,7 +4,7 @@ ghost use Rattle.std.specs.Prelude.{◌≡◌, ◌∷◌, List, ℕ, slice_set};
 ghost use Rattle.flow_rule.specs.declared.Val.{Val};
 ghost use Rattle.flow_rule.specs.Values.{set_each};
 ghost use Rattle.flow_rule.specs.Reasons.{exit_reasons, word_reasons};
-ghost use Rattle.flow_rule.specs.Going.{closes, leaves};
+ghost use Rattle.flow_rule.specs.Going.{closes, exit_step};
 ghost use Rattle.flow_check.specs.internal.Violations.{noted};
 ghost use Rattle.flow_check.specs.internal.Terms.{terms_of};
 
@@ -91,7 +91,7 @@ pub fn close(program: &Program<'_>, pc: u16, core: &Core, least: &mut Option<Vio
 #[tactic(auto, using(crate::proofs::Violations::noted_append))]
 pub fn leave(program: &Program<'_>, pc: u16, state: &Label, least: &mut Option<Violation>)
     ensures { least.new ≡ noted
-        (leaves (terms_of program.now) program.now.module.now pc state.now.core state.now.words).reasons least.old }
+        (exit_step (terms_of program.now) program.now.module.now pc state.now.core state.now.words).reasons least.old }
 {
     check_words(program.module, pc, &state.words, program.public, least);
     close(program, pc, &state.core, least);

@@ -3,7 +3,7 @@
 ghost use Rattle.std.specs.Prelude.{◌≡◌, ◌≤◌, ◌<◌, ◌+◌, ◌*◌, ◌++◌, ◌∷◌, [], length, drop, true, false, ℕ};
 ghost use Rattle.std.specs.Prelude.{List, Bool, IfSome, IfOk, Some, None, slice_get, slice_set};
 ghost use Rattle.flow_rule.specs.declared.Label.{Label};
-ghost use Rattle.flow_rule.specs.Rounds.{join_in, join_all, Point as RulePoint, Step};
+ghost use Rattle.flow_rule.specs.Rounds.{join_in, join_all, Point as RulePoint, FlowStep};
 ghost use Rattle.flow_check.specs.internal.Points.{fronts_of, pair_of, list_of, label_at, points_at};
 ghost use Rattle.flow_check.specs.internal.Points.{point_at, points_of};
 ghost use Rattle.flow_check.specs.internal.Labellings.{mark_at, flagged, flagged_from, same_at, Covered, Kept, NoMark};
@@ -132,7 +132,7 @@ impl Labelling {
     #[tactic(auto, using(crate::proofs::Verdicts::started))]
     pub fn begin(alloc: Global, start: u16, first: &Label) -> Result<Labelling, AllocError>
         ensures few { IfOk result (λ all. length all ≤ 16384) }
-        ensures reached { IfOk result (λ all. (step : RulePoint → Step) →
+        ensures reached { IfOk result (λ all. (step : RulePoint → FlowStep) →
             Reached step record { pair = record { addr = start; returns = [] }; label = first.now } all) }
     {
         let mut all = Labelling {

@@ -1,7 +1,7 @@
 //! The worklist: which program points changed in the last iteration, and what they give.
 
 ghost use Rattle.std.specs.Prelude.{◌≡◌, ◌≤◌, ◌<◌, ◌∷◌, List, length, true, false, IfOk};
-ghost use Rattle.flow_rule.specs.Rounds.{join_all, given};
+ghost use Rattle.flow_rule.specs.Rounds.{join_all, given_points};
 ghost use Rattle.flow_check.specs.internal.Points.{fronts_of, points_of};
 ghost use Rattle.flow_check.specs.internal.Programs.{flow};
 ghost use Rattle.flow_check.specs.internal.Summaries.{AreSummaries};
@@ -25,8 +25,8 @@ fn give(
 ) -> Result<(), AllocError>
     requires summaries { AreSummaries program.now summaries.old.list.items }
     ensures joined { IfOk result (λ _. (rest : List Changed) →
-        join_all (given (flow program.now) (fronts_of (changed.now ∷ rest)))
-        (points_of all.old) ≡ join_all (given (flow program.now) (fronts_of rest))
+        join_all (given_points (flow program.now) (fronts_of (changed.now ∷ rest)))
+        (points_of all.old) ≡ join_all (given_points (flow program.now) (fronts_of rest))
         (points_of all.new)) }
     ensures kept { IfOk result (λ _. StillKept all.old all.new) }
     ensures summaries { IfOk result (λ _. AreSummaries program.now summaries.new.list.items) }
@@ -54,11 +54,11 @@ pub fn iterate(
     requires summaries { AreSummaries program.now summaries.old.list.items }
     requires clear { NoMark all.old }
     ensures joined { IfOk result (λ many. many ≡ false → points_of all.new
-        ≡ join_all (given (flow program.now) (fronts_of front.now)) (points_of all.old)) }
+        ≡ join_all (given_points (flow program.now) (fronts_of front.now)) (points_of all.old)) }
     ensures kept { IfOk result (λ _. Kept (points_of all.old) all.new) }
     ensures few { IfOk result (λ many. many ≡ false → length all.new ≤ 16384) }
     ensures many { IfOk result (λ many. many ≡ true → 16384
-        < length (join_all (given (flow program.now) (fronts_of front.now)) (points_of all.old))) }
+        < length (join_all (given_points (flow program.now) (fronts_of front.now)) (points_of all.old))) }
     ensures summaries { IfOk result (λ _. AreSummaries program.now summaries.new.list.items) }
 {
     for changed in front {

@@ -29,7 +29,7 @@ use Rattle.flow_rule.specs.declared.Val.{Val}
 use Rattle.flow_rule.specs.declared.Val.TheVariants.{Known, Away, Public, Secret}
 use Rattle.flow_rule.specs.Values.{is_secret, set_each, val, put_val, kept_val}
 use Rattle.flow_rule.specs.declared.Reason.TheVariants.{SecretBranch, Arm as ArmInsn}
-use Rattle.flow_rule.specs.Rounds.{Point, Found, Step}
+use Rattle.flow_rule.specs.Rounds.{Point, Found, FlowStep}
 use Rattle.flow_rule.specs.Does.{does_val, past_val}
 use Rattle.flow_rule.specs.Reasons.{because_if}
 use Rattle.flow_rule.specs.Going.{goes, both, also}
@@ -226,10 +226,10 @@ module _ (terms : Terms) (key : List ℕ) (m : Module) (text : List ℕ) (caller
       insn : Insn
       insn = Jump cn off
 
-      goes_on : Step
+      goes_on : FlowStep
       goes_on = goes terms m x.pair.addr x.pair.returns (way_val terms key m text caller shape cn off x c d c d at e true) x.label.words
 
-      other : Step
+      other : FlowStep
       other = also (because_if (is_secret (val x.label.core 2)) x.pair.addr SecretBranch 0) (both goes_on (goes terms m x.pair.addr x.pair.returns (past_val (Jump cn off) x.pair.addr x.label.core) x.label.words))
 
       taken : jumps cn (reg c 2) ≡ true
@@ -303,10 +303,10 @@ module _ (terms : Terms) (key : List ℕ) (m : Module) (text : List ℕ) (caller
     words : AgreeData m x.label.words d d
 
   -- other steps that do along an arm what the plain ones do
-  abbrev pub Refines : (Point → Step) → Type 0
+  abbrev pub Refines : (Point → FlowStep) → Type 0
   Refines S = (x : Point) (c d : List ℕ) (join next : ℕ) → AgreeAt m x c d c d → arm_next join x.pair.addr (met m.text text x.pair.addr) ≡ Some next → (S x).reasons ≡ [] → ((step_of terms m text x).reasons ≡ []) × ((S x).gives ≡ (step_of terms m text x).gives)
 
-  module _ (S : Point → Step) (refine : Refines S) where
+  module _ (S : Point → FlowStep) (refine : Refines S) where
     -- what a run does along each walk to the join in so many steps
     abbrev Arrives : ℕ → ℕ → Type 0
     Arrives join fuel =
@@ -500,7 +500,7 @@ module _ (s : Section) where
   walk_blots_word (Stops addr) l n a b h = h tt
 
 -- ---- both arms
-module _ (terms : Terms) (key : List ℕ) (m : Module) (text : List ℕ) (caller : ℕ) (shape : Shape m) (S : Point → Step) (refine : Refines terms key m text caller shape S) (At : Standing) (down : (x : Point) (ca da cb db : List ℕ) → At x ca da cb db → AgreeAt m x ca da cb db)
+module _ (terms : Terms) (key : List ℕ) (m : Module) (text : List ℕ) (caller : ℕ) (shape : Shape m) (S : Point → FlowStep) (refine : Refines terms key m text caller shape S) (At : Standing) (down : (x : Point) (ca da cb db : List ℕ) → At x ca da cb db → AgreeAt m x ca da cb db)
     (up : (x : Point) (ca da cb db : List ℕ) → At x ca da cb db → (cn : ℕ) (off : ℤ) → met m.text text x.pair.addr ≡ Some (Jump cn off) → (y : Point) (pa qa pb qb : List ℕ) → kept 0 (add16 x.pair.addr 2) ≤ y.pair.addr → AgreeAt m y pa qa pb qb → At y pa qa pb qb)
     (base : (x : Point) (ca da cb db : List ℕ) → At x ca da cb db → (S x).reasons ≡ [] → Crossing terms m (job_of key m text caller) At (S x).gives (at_rest ca da) (at_rest cb db)) where
   abbrev jj : Job

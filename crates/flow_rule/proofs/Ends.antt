@@ -9,7 +9,7 @@ use Rattle.flow_rule.specs.declared.Val.TheVariants.{Known, Away, Public, Secret
 use Rattle.flow_rule.specs.declared.Verdict.{Verdict}
 use Rattle.flow_rule.specs.declared.Verdict.TheVariants.{Yes, No}
 use Rattle.flow_rule.specs.Reasons.{number_of, NotAfter, BeforeAll, AmongThem}
-use Rattle.flow_rule.specs.Rounds.{Point, Found, Step, same_pair, join_label, join_in, join_all, given, round, rounds, IsLabelling, all_reasons}
+use Rattle.flow_rule.specs.Rounds.{Point, Found, FlowStep, same_pair, join_label, join_in, join_all, given_points, round, rounds, IsLabelling, all_reasons}
 use Rattle.flow_rule.specs.Values.{join, join_each}
 use Rattle.flow_rule.specs.Verdict.{Decided, most_pairs}
 
@@ -118,7 +118,7 @@ all_longer xs ys = moves_longer ys (join_all xs ys) (all_moves xs ys)
 
 -- ---- rounds end
 
-module _ (step : Point → Step) (start : Point) (most : ℕ) where
+module _ (step : Point → FlowStep) (start : Point) (most : ℕ) where
   abbrev after : ℕ → List Point
   after n = rounds step start n
 
@@ -137,9 +137,9 @@ module _ (step : Point → Step) (start : Point) (most : ℕ) where
   turn d n more next h (inr (e, inr l)) = next e l
 
   inner : (d : ℕ) → ((k : ℕ) → most < d + length (after k) → Ended) → (r n : ℕ) → most < suc d + length (after n) → left_of (after n) ≤ r → Ended
-  inner d more zero n h k = turn d n more (λ e l. absurd (omega (arith, k, l))) h (all_moves (given step (after n)) (after n))
+  inner d more zero n h k = turn d n more (λ e l. absurd (omega (arith, k, l))) h (all_moves (given_points step (after n)) (after n))
   inner d more (suc r) n h k =
-      turn d n more (λ e l. inner d more r (suc n) (omega (arith, h, e)) (omega (arith, k, l))) h (all_moves (given step (after n)) (after n))
+      turn d n more (λ e l. inner d more r (suc n) (omega (arith, h, e)) (omega (arith, k, l))) h (all_moves (given_points step (after n)) (after n))
 
   outer : (d n : ℕ) → most < d + length (after n) → Ended
   outer zero n h = inl (n, omega (arith, h))
@@ -194,7 +194,7 @@ least x (y ∷ ys) = by (least y ys)
 
 -- ---- verdicts
 
-module _ (step : Point → Step) (start : Point) (begin : ℕ) where
+module _ (step : Point → FlowStep) (start : Point) (begin : ℕ) where
   by_reasons : (xs : List Point) → IsLabelling step start xs → length xs ≤ most_pairs → (rs : List Found) → all_reasons step xs ≡ rs → (v : Verdict) × Decided step start begin v
   by_reasons xs l few [] e = (Yes, (xs, l, few, e))
   by_reasons xs l few (r ∷ rs) e =

@@ -26,11 +26,11 @@ use Rattle.flow_rule.specs.declared.Val.{Val}
 use Rattle.flow_rule.specs.declared.Val.TheVariants.{Known, Away, Public, Secret}
 use Rattle.flow_rule.specs.Values.{is_secret, set_each, val, put_val}
 use Rattle.flow_rule.specs.declared.Reason.TheVariants.{SecretBranch}
-use Rattle.flow_rule.specs.Rounds.{Point, Step}
+use Rattle.flow_rule.specs.Rounds.{Point, FlowStep}
 use Rattle.flow_rule.specs.Does.{plan_val, does_val, past_val, read_val, writes_val, read_reaches, write_reaches}
 use Rattle.flow_rule.specs.Reasons.{because_if, reach_reasons, exit_reasons, word_reasons}
-use Rattle.flow_rule.specs.Going.{leaves, goes_by, goes, both, also}
-use Rattle.flow_rule.specs.Returns.{turn_of}
+use Rattle.flow_rule.specs.Going.{exit_step, goes_by, goes, both, also}
+use Rattle.flow_rule.specs.Returns.{return_turn}
 use Rattle.flow_rule.specs.Steps.{step_plain, step_jump, step_unit, step_insn, step_of}
 use Rattle.flow_rule.proofs.Goes.{goes_in, goes_unless}
 use Rattle.flow_rule.specs.Laws.{AgreeOn}
@@ -96,7 +96,7 @@ landing_of terms m gives ca da cb db (Here y one at) = In y (subst (λ g. Among 
 landing_of terms m gives ca da cb db (Gone nothing same out_a out_b p q agree) = Out same out_a out_b p q agree
 
 module _ (terms : Terms) (m : Module) where
-  gone : (pc : ℕ) (v words : List Val) (ca da cb db : List ℕ) → AgreeCore m.text v ca cb → AgreeData m words da db → (leaves terms m pc v words).reasons ≡ [] → holds m.text (reg ca 0) ≡ false → holds m.text (reg cb 0) ≡ false →
+  gone : (pc : ℕ) (v words : List Val) (ca da cb db : List ℕ) → AgreeCore m.text v ca cb → AgreeData m words da db → (exit_step terms m pc v words).reasons ≡ [] → holds m.text (reg ca 0) ≡ false → holds m.text (reg cb 0) ≡ false →
       Single terms m [] ca da cb db
   gone pc v words ca da cb db h d e out_a out_b =
       let ws = word_reasons m pc words terms.public in
@@ -263,7 +263,7 @@ module _ (terms : Terms) (key : List ℕ) (m : Module) (text : List ℕ) (caller
       let rs = plan_val insn pc v in
       let vs = map (read_val m text x.label.words) (read_reaches rs) in
       let dv = does_val insn pc v vs in
-      let t = turn_of insn pc x.pair.returns vs in
+      let t = return_turn insn pc x.pair.returns vs in
       let g = goes_unless terms t.stops m pc t.returns dv.core (writes_val m x.label.words (write_reaches rs) dv.stored) in
       let n1 = none_left (reach_reasons m pc rs ++ t.reasons) g.reasons none in
       let n2 = none_right (reach_reasons m pc rs ++ t.reasons) g.reasons none in
@@ -303,7 +303,7 @@ module _ (terms : Terms) (key : List ℕ) (m : Module) (text : List ℕ) (caller
       let rs = plan_val insn pc v in
       let vs = map (read_val m text x.label.words) (read_reaches rs) in
       let dv = does_val insn pc v vs in
-      let t = turn_of insn pc x.pair.returns vs in
+      let t = return_turn insn pc x.pair.returns vs in
       let g = goes_unless terms t.stops m pc t.returns dv.core (writes_val m x.label.words (write_reaches rs) dv.stored) in
       let n3 = none_left (reach_reasons m pc rs) t.reasons (none_left (reach_reasons m pc rs ++ t.reasons) g.reasons none) in
       let f = fixed m pc rs (plan insn ca) (plan insn cb) (h.reached pc v ca cb at.pc_a at.pc_b at.core) n3 in
@@ -398,7 +398,7 @@ module _ (terms : Terms) (key : List ℕ) (m : Module) (text : List ℕ) (caller
         (fetched cb db insn ev_b (ap (λ a. holds m.text a) at.pc_b ∙ at.in_text) (ap (λ a. met m.text text a) at.pc_b ∙ met_it) refl refl)
         (jump_so cond_no off ca da ∙ ap (λ t. after (way t ca) da 1 false) ea) (jump_so cond_no off cb db ∙ ap (λ t. after (way t cb) db 1 false) eb) l
 
-    abbrev pub way_goes : Bool → Step
+    abbrev pub way_goes : Bool → FlowStep
     way_goes t = goes terms m pc x.pair.returns (way_val t) x.label.words
 
     pub way_single : (t : Bool) → (way_goes t).reasons ≡ [] → Single terms m (way_goes t).gives (way t ca) da (way t cb) db
@@ -411,7 +411,7 @@ module _ (terms : Terms) (key : List ℕ) (m : Module) (text : List ℕ) (caller
     unfolding does_val
     jump_crossing none = by (cond_no == 7) refl none
       where
-        abbrev_either : Step
+        abbrev_either : FlowStep
         abbrev_either = also (because_if (is_secret (val x.label.core 2)) pc SecretBranch 0) (both (way_goes true) (way_goes false))
 
         by : (c : Bool) → (cond_no == 7) ≡ c → (cond c (way_goes true) (also (because_if (is_secret (val x.label.core 2)) pc SecretBranch 0) (both (way_goes true) (way_goes false)))).reasons ≡ [] →

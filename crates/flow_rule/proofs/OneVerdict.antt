@@ -4,14 +4,14 @@ use Rattle.flow_rule.specs.declared.Reason.{Reason}
 use Rattle.flow_rule.specs.declared.Reason.TheVariants as reason
 use Rattle.flow_rule.specs.declared.Verdict.{Verdict}
 use Rattle.flow_rule.specs.declared.Verdict.TheVariants.{Yes, No}
-use Rattle.flow_rule.specs.Rounds.{Point, Found, Step, given, round, rounds, IsLabelling, all_reasons}
+use Rattle.flow_rule.specs.Rounds.{Point, Found, FlowStep, given_points, round, rounds, IsLabelling, all_reasons}
 use Rattle.flow_rule.specs.Reasons.{number_of, NotAfter, BeforeAll, AmongThem}
 use Rattle.flow_rule.specs.Verdict.{Decided}
 use Rattle.flow_rule.proofs.Ends.{all_longer}
 
 -- Rounds never shorten
 
-module _ (step : Point → Step) where
+module _ (step : Point → FlowStep) where
   -- this many rounds from these points
   abbrev more : ℕ → List Point → List Point
   more zero xs = xs
@@ -27,7 +27,7 @@ module _ (step : Point → Step) where
 
   longer : (n : ℕ) (xs : List Point) → length xs ≤ length (more n xs)
   longer zero xs = omega arith
-  longer (suc n) xs = omega (arith, longer n xs, all_longer (given step (more n xs)) (more n xs))
+  longer (suc n) xs = omega (arith, longer n xs, all_longer (given_points step (more n xs)) (more n xs))
 
   abbrev Stays : List Point → Type 0
   Stays xs = round step xs ≡ xs
@@ -114,7 +114,7 @@ none_among r (x ∷ xs) e a = cc
 
 -- Verdicts
 
-module _ (step : Point → Step) (start : Point) (begin : ℕ) where
+module _ (step : Point → FlowStep) (start : Point) (begin : ℕ) where
   pub one_verdict : (a b : Verdict) → Decided step start begin a → Decided step start begin b → a ≡ b
   one_verdict Yes Yes d e = refl
   one_verdict Yes (No addr why value) d (inl e) =

@@ -29,9 +29,9 @@ use Rattle.flow_rule.specs.Rounds.{Point}
 use Rattle.flow_rule.specs.declared.Reach.{Reach}
 use Rattle.flow_rule.specs.Does.{writes_val, past_val, lowered_val}
 use Rattle.flow_rule.specs.Reasons.{because_if, reach_reasons}
-use Rattle.flow_rule.specs.Returns.{calls, Turn}
+use Rattle.flow_rule.specs.Returns.{calls, ReturnTurn}
 use Rattle.flow_rule.specs.Steps.{step_of, step_insn, step_plain}
-use Rattle.flow_rule.specs.Stub.{word_of, entries_of, word_number, is_shut, is_open, shut_reasons, shut_if, to_entries, step_entries, step_stub, call_entry}
+use Rattle.flow_rule.specs.Stub.{text_word, entries_of, word_number, is_shut, is_open, shut_reasons, shut_if, to_entries, step_entries, step_stub, call_entry}
 use Rattle.arm_balance.specs.Met.{text_byte, met}
 use Rattle.entry_stubs.specs.Stub.{stub_front}
 use Rattle.flow_rule.proofs.Cores.{AgreeCore, put_agrees, put_other_reg, confined_agrees, ends_so}
@@ -350,7 +350,7 @@ module _ (terms : Terms) (key : List ℕ) (m : Module) (text : List ℕ) (caller
 
   abbrev entry_point : ℕ → List ℕ → List Val → List Val → Point
   entry_point i returns core words =
-      let a = word_of m text (38 + i) in
+      let a = text_word m text (38 + i) in
       record { pair = record { addr = a; returns = returns }; label = record { core = put_val core 0 (Known a); words = words } }
 
   entry_among : (k i : ℕ) (returns : List ℕ) (core words : List Val) → i < k → Among (entry_point i returns core words) (to_entries m text k returns core words)
@@ -391,11 +391,11 @@ module _ (terms : Terms) (key : List ℕ) (m : Module) (text : List ℕ) (caller
     abbrev push : Reach
     push = record { kind = Write; addr = val core_val 1; width = Word }
 
-    abbrev turned : Turn
+    abbrev turned : ReturnTurn
     turned = calls x.pair.addr x.pair.returns (x.pair.addr + 4)
 
     abbrev goal_of : ℕ
-    goal_of = word_of m text (38 + i)
+    goal_of = text_word m text (38 + i)
 
     lowered_both : AgreeCore m.text core_val (lowered (past (call_entry m) ca)) (lowered (past (call_entry m) cb))
     lowered_both =

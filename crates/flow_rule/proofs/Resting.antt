@@ -27,11 +27,11 @@ use Rattle.flow_rule.specs.declared.Label.{Label}
 use Rattle.flow_rule.specs.declared.Reach.{Reach}
 use Rattle.flow_rule.specs.declared.Reason.TheVariants.{Arm as ArmInsn, SecretBranch}
 use Rattle.flow_rule.specs.Values.{is_secret, val}
-use Rattle.flow_rule.specs.Rounds.{Point, Found, Step}
+use Rattle.flow_rule.specs.Rounds.{Point, Found, FlowStep}
 use Rattle.flow_rule.specs.Does.{plan_val, read_val, writes_val, read_reaches, write_reaches, does_val, past_val}
 use Rattle.flow_rule.specs.Reasons.{because_if, reach_reasons}
 use Rattle.flow_rule.specs.Going.{goes_by, goes, both, also}
-use Rattle.flow_rule.specs.Returns.{Turn, turn_of, but_last, last_is}
+use Rattle.flow_rule.specs.Returns.{ReturnTurn, return_turn, without_newest, last_is}
 use Rattle.flow_rule.specs.Steps.{step_plain, step_jump, step_insn, step_of}
 use Rattle.flow_rule.proofs.Goes.{goes_in, goes_unless}
 use Rattle.flow_rule.specs.Stub.{word_number, is_open, shut_reasons, shut_if, step_entries, step_stub, has_stub}
@@ -58,7 +58,7 @@ record Near (y z : Point) : Type 0 where
   over : Over y.label z.label
 
 -- a step that goes to one place, and one that goes there too, with a label that knows no less
-record Leads (s q : Step) : Type 0 where
+record Leads (s q : FlowStep) : Type 0 where
   y : Point
   z : Point
   to_y : s.gives ≡ y ∷ []
@@ -67,7 +67,7 @@ record Leads (s q : Step) : Type 0 where
   near : Near y z
 
 -- the step goes to some place
-record Some_gives (s : Step) : Type 0 where
+record Some_gives (s : FlowStep) : Type 0 where
   first : Point
   rest : List Point
   gives : s.gives ≡ first ∷ rest
@@ -103,7 +103,7 @@ module _ (terms : Terms) (m : Module) (pc : ℕ) where
       by_keeps (val ts 0) (val vs 0) r q ts ws vs us (nth_keeps ts vs 0 p) even p d g
 
 -- ---- an instruction of an arm leaves the return addresses as they are
-abbrev quiet : List ℕ → Turn
+abbrev quiet : List ℕ → ReturnTurn
 quiet returns = record { reasons = []; returns = returns; stops = false }
 
 if_first : (a b : Bool) (to next : ℕ) → cond (a && b) (Some to) None ≡ Some next → a ≡ true
@@ -115,12 +115,12 @@ if_seven true b c to next e = refl
 if_seven false b c to next e = absurd cc
 
 two_quiet : (join pc next : ℕ) (op : TwoOp) (w : Width) (s d : Operand) (r : List ℕ) (vs : List Val) →
-    arm_next join pc (Some (Two op w s d)) ≡ Some next → turn_of (Two op w s d) pc r vs ≡ quiet r
+    arm_next join pc (Some (Two op w s d)) ≡ Some next → return_turn (Two op w s d) pc r vs ≡ quiet r
 two_quiet join pc next Mov Word (Increment n) (Reg d) r vs on =
     by (n == 1) (d == 0) (if_first (not (d == 0)) _ _ next on)
   where
-    returned : Turn
-    returned = record { reasons = []; returns = but_last r; stops = not (last_is (nth 0 vs Secret) r) }
+    returned : ReturnTurn
+    returned = record { reasons = []; returns = without_newest r; stops = not (last_is (nth 0 vs Secret) r) }
 
     by : (a b : Bool) → not b ≡ true → cond (a && b) returned (quiet r) ≡ quiet r
     by true true e = absurd cc
@@ -129,7 +129,7 @@ two_quiet join pc next Mov Word (Increment n) (Reg d) r vs on =
 two_quiet join pc next op w s d r vs on = refl
 
 one_quiet : (join pc next : ℕ) (op : OneOp) (w : Width) (a : Operand) (r : List ℕ) (vs : List Val) →
-    arm_next join pc (Some (One op w a)) ≡ Some next → turn_of (One op w a) pc r vs ≡ quiet r
+    arm_next join pc (Some (One op w a)) ≡ Some next → return_turn (One op w a) pc r vs ≡ quiet r
 one_quiet join pc next Call w a r vs on = absurd cc
 one_quiet join pc next op w a r vs on = refl
 
@@ -143,14 +143,14 @@ module _ (terms : Terms) (m : Module) (text : List ℕ) where
   given l xs = map (read_val m text l.words) (read_reaches xs)
 
   -- a plain step, over its accesses and what it makes of the return addresses
-  abbrev plain : Insn → ℕ → Label → List Reach → Turn → Step
+  abbrev plain : Insn → ℕ → Label → List Reach → ReturnTurn → FlowStep
   plain insn pc l xs t =
       let d = does_val insn pc l.core (given l xs) in
       also (reach_reasons m pc xs ++ t.reasons)
       (goes_unless terms t.stops m pc t.returns d.core (writes_val m l.words (write_reaches xs) d.stored))
 
   is_plain : (insn : Insn) (pc : ℕ) (r : List ℕ) (l : Label) (xs : List Reach) → plan_val insn pc l.core ≡ xs →
-      ((vs : List Val) → turn_of insn pc r vs ≡ quiet r) →
+      ((vs : List Val) → return_turn insn pc r vs ≡ quiet r) →
       step_plain terms m text insn (point pc r l) ≡ plain insn pc l xs (quiet r)
   is_plain insn pc r l xs e turn =
       ap (λ t. plain insn pc l (plan_val insn pc l.core) t) (turn (given l (plan_val insn pc l.core)))
@@ -168,12 +168,12 @@ module _ (terms : Terms) (m : Module) (text : List ℕ) where
       record { y = h.y; z = h.z; to_y = h.to_y; to_z = h.to_z; none = no_more _ _ e h.none; near = h.near }
 
   -- a step, and the accesses that it is told by
-  record Goes (o : Option Insn) (pc : ℕ) (top low : Label) (s q : Step) : Type 0 where
+  record Goes (o : Option Insn) (pc : ℕ) (top low : Label) (s q : FlowStep) : Type 0 where
     leads : Leads s q
     same_words : (r r' : List ℕ) → met_words o m (point pc r' low) ≡ met_words o m (point pc r top)
 
   plain_goes : (insn : Insn) (pc : ℕ) (r q : List ℕ) (top low : Label) →
-      ((r : List ℕ) (vs : List Val) → turn_of insn pc r vs ≡ quiet r) → Over top low →
+      ((r : List ℕ) (vs : List Val) → return_turn insn pc r vs ≡ quiet r) → Over top low →
       (step_plain terms m text insn (point pc r top)).reasons ≡ [] → Some_gives (step_plain terms m text insn (point pc r top)) →
       Goes (Some insn) pc top low (step_plain terms m text insn (point pc r top)) (step_plain terms m text insn (point pc q low))
   plain_goes insn pc r q top low turn o none g =
@@ -182,7 +182,7 @@ module _ (terms : Terms) (m : Module) (text : List ℕ) where
       let same = same_plan m pc insn top.core low.core o.core free in
       let a = is_plain insn pc r top xs refl (turn r) in
       let b = is_plain insn pc q low xs same (turn q) in
-      let P : Step → Type 0 = λ s. Some_gives s in
+      let P : FlowStep → Type 0 = λ s. Some_gives s in
       let k = plain_leads insn pc r q top low xs o free (subst P a g) in
       record {
         leads = subst (λ s. Leads s (step_plain terms m text insn (point pc q low))) (sym a)
@@ -197,10 +197,10 @@ module _ (terms : Terms) (m : Module) (text : List ℕ) where
   unfolding plan_val
   jump_goes cn off pc r q top low seven o g = record { leads = by (cn == 7) seven g; same_words = λ r r'. refl }
     where
-      taken : List ℕ → Label → Step
+      taken : List ℕ → Label → FlowStep
       taken r l = goes terms m pc r (does_val (Jump cn off) pc l.core []).core l.words
 
-      other : List ℕ → Label → Step
+      other : List ℕ → Label → FlowStep
       other r l = also (because_if (is_secret (val l.core 2)) pc SecretBranch 0)
           (both (taken r l) (goes terms m pc r (past_val (Jump cn off) pc l.core) l.words))
 
@@ -225,7 +225,7 @@ module _ (terms : Terms) (m : Module) (text : List ℕ) where
   insn_goes (Some (UnitOp n)) join next pc r q top low on p none g = absurd cc
 
   -- ---- the steps of a text: each goes on alike from an address of an arm
-  abbrev Alike : (Point → Step) → Type 0
+  abbrev Alike : (Point → FlowStep) → Type 0
   Alike S = (join next pc : ℕ) (r q : List ℕ) (top low : Label) → pc % 2 ≡ 0 → holds m.text pc ≡ true →
       arm_next join pc (met m.text text pc) ≡ Some next → Over top low → (S (point pc r top)).reasons ≡ [] →
       Some_gives (S (point pc r top)) →
@@ -265,10 +265,10 @@ module _ (terms : Terms) (m : Module) (text : List ℕ) where
   stub_alike start stub join next pc r q top low even inn on o none g =
       by (word_number m pc == 17) (is_open (word_number m pc)) refl none g
     where
-      from_top : Step
+      from_top : FlowStep
       from_top = step_of terms m text (point pc r top)
 
-      from_low : Step
+      from_low : FlowStep
       from_low = step_of terms m text (point pc q low)
 
       by : (a b : Bool) → (word_number m pc == 17) ≡ a →
@@ -306,7 +306,7 @@ module _ (terms : Terms) (m : Module) (text : List ℕ) where
               ∙ none_right from_top.reasons (shut_reasons m pc from_top.gives) none
 
   -- ---- walks
-  module _ (S : Point → Step) (alike : Alike S) (join : ℕ) where
+  module _ (S : Point → FlowStep) (alike : Alike S) (join : ℕ) where
     -- to the join, in so many steps
     abbrev onward : ℕ → Point → Walk
     onward fuel x = walk S m text join fuel x
@@ -315,12 +315,12 @@ module _ (terms : Terms) (m : Module) (text : List ℕ) where
     Same fuel = (y z : Point) → Near y z → MeetsJoin (onward fuel y) → onward fuel z ≡ onward fuel y
 
     -- after this step of a point
-    abbrev further : ℕ → ℕ → Step → Point → Walk
+    abbrev further : ℕ → ℕ → FlowStep → Point → Walk
     further fuel next s x = walk_on (Some next) s.reasons s.gives m text x (onward fuel)
 
     walk_more : (fuel next pc : ℕ) (r q : List ℕ) (top low : Label) → pc % 2 ≡ 0 → holds m.text pc ≡ true →
         arm_next join pc (met m.text text pc) ≡ Some next → Over top low → Same fuel →
-        (s : Step) → S (point pc r top) ≡ s → MeetsJoin (further fuel next s (point pc r top)) →
+        (s : FlowStep) → S (point pc r top) ≡ s → MeetsJoin (further fuel next s (point pc r top)) →
         further fuel next (S (point pc q low)) (point pc q low) ≡ further fuel next s (point pc r top)
     walk_more fuel next pc r q top low even here on o go s es meets =
         by s.reasons s.gives (ap (λ s. s.reasons) es) (ap (λ s. s.gives) es) meets
@@ -382,7 +382,7 @@ module _ (terms : Terms) (m : Module) (text : List ℕ) where
         (walk_same fuel) meets)
 
   -- ---- both arms of a branch
-  abbrev Rests : (Point → Step) → Insn → ℕ → Arm → Point → Point → Type 0
+  abbrev Rests : (Point → FlowStep) → Insn → ℕ → Arm → Point → Point → Type 0
   Rests S insn target arm top x =
       (first_walk S m text insn arm x ≡ first_walk S m text insn arm top)
       × (second_walk S m text insn target arm x ≡ second_walk S m text insn target arm top)
@@ -390,7 +390,7 @@ module _ (terms : Terms) (m : Module) (text : List ℕ) where
   kept_even : (a : ℕ) → kept 0 a % 2 ≡ 0
   kept_even a = omega arith
 
-  arms_same : (S : Point → Step) → Alike S → (insn : Insn) (target : ℕ) (arm : Arm) (pc : ℕ) (r q : List ℕ) →
+  arms_same : (S : Point → FlowStep) → Alike S → (insn : Insn) (target : ℕ) (arm : Arm) (pc : ℕ) (r q : List ℕ) →
       (top low : Label) → Over top low → (step_arm S m text insn target arm (point pc r top)).reasons ≡ [] →
       Rests S insn target arm (point pc r top) (point pc q low)
   arms_same S alike insn target arm pc r q top low o none =
@@ -426,7 +426,7 @@ module _ (terms : Terms) (m : Module) (text : List ℕ) where
       low : Point
       low = point top.pair.addr x.pair.returns x.label
 
-      of_step : (S : Point → Step) → Alike S → (step_arm S m text insn target arm top).reasons ≡ [] →
+      of_step : (S : Point → FlowStep) → Alike S → (step_arm S m text insn target arm top).reasons ≡ [] →
           Rests S insn target arm top low
       of_step S alike none =
           arms_same S alike insn target arm top.pair.addr top.pair.returns x.pair.returns top.label x.label

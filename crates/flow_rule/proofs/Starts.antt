@@ -13,7 +13,7 @@ use Rattle.flow_rule.specs.Terms.{Terms}
 use Rattle.flow_rule.specs.declared.Val.TheVariants.{Away, Public, Secret}
 use Rattle.flow_rule.specs.Values.{val}
 use Rattle.flow_rule.specs.Stub.{word_number}
-use Rattle.flow_rule.specs.Verdict.{no_secret, begins}
+use Rattle.flow_rule.specs.Verdict.{no_secret, start_point}
 use Rattle.flow_rule.specs.Laws.{AgreeOn, ends_but}
 use Rattle.flow_rule.proofs.Meaning.{Agrees}
 use Rattle.flow_rule.proofs.Words.{Shape, IsData}
@@ -45,7 +45,7 @@ starts_at s c pc e z (suc (suc zero)) = refl
 starts_at s c pc e z (suc (suc (suc zero))) = (z, z)
 starts_at s c pc e z (suc (suc (suc (suc n)))) = publics s 12 n (reg c (suc (suc (suc (suc n)))))
 
-pub begins_at : (terms : Terms) (m : Module) (c da db : List ℕ) (pc : ℕ) → IsCore c → reg c 0 ≡ pc → holds m.text pc ≡ true → IsData m da → IsData m db → AgreeOn m terms.public da db → AgreeAt m (begins terms m pc (no_secret pc)) c da c db
+pub begins_at : (terms : Terms) (m : Module) (c da db : List ℕ) (pc : ℕ) → IsCore c → reg c 0 ≡ pc → holds m.text pc ≡ true → IsData m da → IsData m db → AgreeOn m terms.public da db → AgreeAt m (start_point terms m pc (no_secret pc)) c da c db
 begins_at terms m c da db pc ok e t pa pb agree =
     record {
       pc_a = e;
@@ -88,7 +88,7 @@ away_start s c pc e z small out (suc (suc (suc (suc (suc (suc (suc (suc n)))))))
 
 -- where the start's own way through a stub ends
 pub stub_begins : (terms : Terms) (m : Module) (text : List ℕ) (n p : ℕ) → Shape m → StubFacts m text n p → (c da db : List ℕ) (six seven : ℕ) → seven < 65536 → holds m.text seven ≡ false → Calm c (m.text.start + 20) six seven → six < n → IsData m da → IsData m db → AgreeOn m terms.public da db →
-    AtStub m n (begins terms m (m.text.start + 20) (set (no_secret (m.text.start + 20)) 7 Away)) c da c db
+    AtStub m n (start_point terms m (m.text.start + 20) (set (no_secret (m.text.start + 20)) 7 Away)) c da c db
 stub_begins terms m text n p shape facts c da db six seven small out h few pa pb agree =
     let pc = m.text.start + 20 in
     let s0 = shape.text_start in

@@ -8,7 +8,7 @@ use Rattle.insn_decode.specs.declared.insn.Insn.{Insn}
 use Rattle.mod_layout.specs.declared.Module.{Module}
 use Rattle.mod_layout.specs.Table.{holds, size_of}
 use Rattle.cpu_step.specs.Fetched.{insn_at, word_in, insn_from}
-use Rattle.flow_rule.specs.Stub.{word_of, words_are, table_fine, has_stub}
+use Rattle.flow_rule.specs.Stub.{text_word, words_are, table_fine, has_stub}
 use Rattle.arm_balance.specs.Met.{text_byte, met}
 use Rattle.entry_stubs.specs.Stub.{stub_front}
 
@@ -16,29 +16,29 @@ pub record StubFacts (m : Module) (text : List ℕ) (n p : ℕ) : Type 0 where
   pub room : 76 + 2 * n ≤ size_of m.text
   pub some : 1 ≤ n
   pub few : n ≤ 64
-  pub words : (i : ℕ) → i < 38 → word_of m text i ≡ nth i (stub_front m.text.start m.text.end m.ram.start n p) 0
-  pub table : (i : ℕ) → i < n → (word_of m text (38 + i) % 2 ≡ 0) × (m.text.start + 76 + 2 * n ≤ word_of m text (38 + i)) × (word_of m text (38 + i) < m.text.end)
+  pub words : (i : ℕ) → i < 38 → text_word m text i ≡ nth i (stub_front m.text.start m.text.end m.ram.start n p) 0
+  pub table : (i : ℕ) → i < n → (text_word m text (38 + i) % 2 ≡ 0) × (m.text.start + 76 + 2 * n ≤ text_word m text (38 + i)) × (text_word m text (38 + i) < m.text.end)
 
-words_at : (m : Module) (text : List ℕ) (k : ℕ) (ws : List ℕ) → words_are m text k ws ≡ true → (i : ℕ) → i < length ws → word_of m text (k + i) ≡ nth i ws 0
+words_at : (m : Module) (text : List ℕ) (k : ℕ) (ws : List ℕ) → words_are m text k ws ≡ true → (i : ℕ) → i < length ws → text_word m text (k + i) ≡ nth i ws 0
 words_at m text k [] e i lt = absurd (omega arith)
 words_at m text k (w ∷ ws) e zero lt =
-    let h = and_parts (word_of m text k == w) (words_are m text (k + 1) ws) e in
+    let h = and_parts (text_word m text k == w) (words_are m text (k + 1) ws) e in
     let h0 = h.0 in
     let f : k + zero ≡ k = omega arith in
-    ap (λ i. word_of m text i) f ∙ is_word (word_of m text k) w h0
+    ap (λ i. text_word m text i) f ∙ is_word (text_word m text k) w h0
   where
     is_word : (x w : ℕ) → (x == w) ≡ true → x ≡ w
     is_word x w e = grind (arith, nat_tests)
 words_at m text k (w ∷ ws) e (suc i) lt =
-    let h = and_parts (word_of m text k == w) (words_are m text (k + 1) ws) e in
+    let h = and_parts (text_word m text k == w) (words_are m text (k + 1) ws) e in
     let f : k + suc i ≡ k + 1 + i = omega arith in
-    ap (λ i. word_of m text i) f ∙ words_at m text (k + 1) ws h.1 i (omega arith)
+    ap (λ i. text_word m text i) f ∙ words_at m text (k + 1) ws h.1 i (omega arith)
 
 table_at : (m : Module) (text : List ℕ) (entries k : ℕ) → table_fine m text entries k ≡ true → (i : ℕ) → i < k →
-    (word_of m text (38 + i) % 2 ≡ 0) × (m.text.start + 76 + 2 * entries ≤ word_of m text (38 + i)) × (word_of m text (38 + i) < m.text.end)
+    (text_word m text (38 + i) % 2 ≡ 0) × (m.text.start + 76 + 2 * entries ≤ text_word m text (38 + i)) × (text_word m text (38 + i) < m.text.end)
 table_at m text entries zero e i lt = absurd (omega arith)
 table_at m text entries (suc k) e i lt =
-    let a = word_of m text (38 + k) in
+    let a = text_word m text (38 + k) in
     let h1 = and_parts ((a % 2 == 0) && nat_le (m.text.start + 76 + 2 * entries) a && nat_lt a m.text.end) (table_fine m text entries k) e in
     let h2 = and_parts ((a % 2 == 0) && nat_le (m.text.start + 76 + 2 * entries) a) (nat_lt a m.text.end) h1.0 in
     let h3 = and_parts (a % 2 == 0) (nat_le (m.text.start + 76 + 2 * entries) a) h2.0 in
@@ -47,29 +47,29 @@ table_at m text entries (suc k) e i lt =
     word_facts : (a : ℕ) → (a % 2 == 0) ≡ true → nat_le (m.text.start + 76 + 2 * entries) a ≡ true → nat_lt a m.text.end ≡ true → (a % 2 ≡ 0) × (m.text.start + 76 + 2 * entries ≤ a) × (a < m.text.end)
     word_facts a p q r = (grind (arith, nat_tests), grind (arith, nat_tests), grind (arith, nat_tests))
 
-    by : (word_of m text (38 + k) % 2 ≡ 0) × (m.text.start + 76 + 2 * entries ≤ word_of m text (38 + k)) × (word_of m text (38 + k) < m.text.end) → (i < k) ⊎ (k ≤ i) →
-        (i < k → (word_of m text (38 + i) % 2 ≡ 0) × (m.text.start + 76 + 2 * entries ≤ word_of m text (38 + i)) × (word_of m text (38 + i) < m.text.end)) →
-        (word_of m text (38 + i) % 2 ≡ 0) × (m.text.start + 76 + 2 * entries ≤ word_of m text (38 + i)) × (word_of m text (38 + i) < m.text.end)
+    by : (text_word m text (38 + k) % 2 ≡ 0) × (m.text.start + 76 + 2 * entries ≤ text_word m text (38 + k)) × (text_word m text (38 + k) < m.text.end) → (i < k) ⊎ (k ≤ i) →
+        (i < k → (text_word m text (38 + i) % 2 ≡ 0) × (m.text.start + 76 + 2 * entries ≤ text_word m text (38 + i)) × (text_word m text (38 + i) < m.text.end)) →
+        (text_word m text (38 + i) % 2 ≡ 0) × (m.text.start + 76 + 2 * entries ≤ text_word m text (38 + i)) × (text_word m text (38 + i) < m.text.end)
     by w (inl l) go = go l
     by w (inr ge) go =
         let f : k ≡ i = omega arith in
-        subst (λ i. (word_of m text (38 + i) % 2 ≡ 0) × (m.text.start + 76 + 2 * entries ≤ word_of m text (38 + i)) × (word_of m text (38 + i) < m.text.end)) f w
+        subst (λ i. (text_word m text (38 + i) % 2 ≡ 0) × (m.text.start + 76 + 2 * entries ≤ text_word m text (38 + i)) × (text_word m text (38 + i) < m.text.end)) f w
 
 seven : (a b c d e f g h : Bool) → (a && b && c && d && e && f && g && h) ≡ true → (a ≡ true) × (b ≡ true) × (c ≡ true) × (d ≡ true) × (h ≡ true)
 seven true true true true true true true true e = (refl, refl, refl, refl, refl)
 seven a b c d e f g h p = absurd cc
 
-pub stub_facts : (m : Module) (text : List ℕ) → has_stub m text ≡ true → StubFacts m text (word_of m text 8) (word_of m text 15)
+pub stub_facts : (m : Module) (text : List ℕ) → has_stub m text ≡ true → StubFacts m text (text_word m text 8) (text_word m text 15)
 unfolding has_stub
 stub_facts m text e =
-    let n = word_of m text 8 in
-    let p = word_of m text 15 in
+    let n = text_word m text 8 in
+    let p = text_word m text 15 in
     let h = seven (nat_le (76 + 2 * n) (size_of m.text)) (words_are m text 0 (stub_front m.text.start m.text.end m.ram.start n p)) (nat_le 1 n) (nat_le n 64) (nat_le (m.ram.start + 4) p) (p % 2 == 0) (nat_le p m.ram.end) (table_fine m text n n) e in
     record {
       room = le (76 + 2 * n) (size_of m.text) h.0;
       some = le 1 n h.2;
       few = le n 64 h.3;
-      words = λ i lt. ap (λ i. word_of m text i) (let f : i ≡ 0 + i = omega arith in f) ∙ words_at m text 0 (stub_front m.text.start m.text.end m.ram.start n p) h.1 i lt;
+      words = λ i lt. ap (λ i. text_word m text i) (let f : i ≡ 0 + i = omega arith in f) ∙ words_at m text 0 (stub_front m.text.start m.text.end m.ram.start n p) h.1 i lt;
       table = table_at m text n n h.4;
     }
   where

@@ -20,7 +20,7 @@ use Rattle.flow_rule.specs.declared.Val.{Val}
 use Rattle.flow_rule.specs.declared.Val.TheVariants.{Known, Secret}
 use Rattle.flow_rule.specs.Values.{is_secret, set_each, val, put_val}
 use Rattle.flow_rule.specs.declared.Reason.TheVariants.{Arm as ArmInsn, ArmTime}
-use Rattle.flow_rule.specs.Rounds.{Point, Found, Step}
+use Rattle.flow_rule.specs.Rounds.{Point, Found, FlowStep}
 use Rattle.flow_rule.specs.declared.Reach.{Reach}
 use Rattle.flow_rule.specs.Does.{plan_val, write_reaches, word_no, does_val, past_val}
 use Rattle.flow_rule.specs.declared.Verdict.{Verdict}
@@ -78,7 +78,7 @@ walk_on (Some next) [] [] m text x rest = Stops next
 walk_on (Some next) [] (y ∷ ys) m text x rest = walked (met m.text text x.pair.addr) m x (rest y)
 
 -- from a point to the join, by these steps
-abbrev pub walk : (Point → Step) → Module → List ℕ → ℕ → ℕ → Point → Walk
+abbrev pub walk : (Point → FlowStep) → Module → List ℕ → ℕ → ℕ → Point → Walk
 walk step m text join zero x = Stops x.pair.addr
 walk step m text join (suc fuel) x =
     let s = step x in
@@ -90,12 +90,12 @@ abbrev pub arm_start : Insn → ℕ → Point → List Val → Point
 arm_start insn a x core = record { pair = record { addr = kept 0 a; returns = x.pair.returns }; label = record { core = core; words = x.label.words } }
 
 -- along the arm that the jump does not take, and along the one that it takes
-abbrev pub first_walk : (Point → Step) → Module → List ℕ → Insn → Arm → Point → Walk
+abbrev pub first_walk : (Point → FlowStep) → Module → List ℕ → Insn → Arm → Point → Walk
 first_walk step m text insn arm x =
     let pc = x.pair.addr in
     walk step m text arm.join (suc arm.join) (arm_start insn (add16 pc 2) x (past_val insn pc x.label.core))
 
-abbrev pub second_walk : (Point → Step) → Module → List ℕ → Insn → ℕ → Arm → Point → Walk
+abbrev pub second_walk : (Point → FlowStep) → Module → List ℕ → Insn → ℕ → Arm → Point → Walk
 second_walk step m text insn target arm x =
     walk step m text arm.join (suc arm.join) (arm_start insn target x (does_val insn x.pair.addr x.label.core []).core)
 
@@ -105,7 +105,7 @@ arm_reasons branch time number (Meets cycles regs words) = because_if (not (cycl
 arm_reasons branch time number (Stops addr) = because branch ArmInsn addr
 
 -- the rule of a branch with a certificate
-abbrev pub step_arm : (Point → Step) → Module → List ℕ → Insn → ℕ → Arm → Point → Step
+abbrev pub step_arm : (Point → FlowStep) → Module → List ℕ → Insn → ℕ → Arm → Point → FlowStep
 step_arm step m text insn target arm x =
     let pc = x.pair.addr in
     let w0 = first_walk step m text insn arm x in
@@ -120,21 +120,21 @@ step_arm step m text insn target arm x =
       } ∷ [];
     }
 
-abbrev pub step_branch : Option Arm → (Point → Step) → Module → List ℕ → Insn → Point → ℕ → Step
+abbrev pub step_branch : Option Arm → (Point → FlowStep) → Module → List ℕ → Insn → Point → ℕ → FlowStep
 step_branch None step m text insn x target = step x
 step_branch (Some arm) step m text insn x target = step_arm step m text insn target arm x
 
 -- only a conditional jump with Secret flags whose address is a branch of the list is taken otherwise
-abbrev pub step_arms_by : Option Insn → (Point → Step) → List Arm → Module → List ℕ → Point → Step
+abbrev pub step_arms_by : Option Insn → (Point → FlowStep) → List Arm → Module → List ℕ → Point → FlowStep
 step_arms_by (Some (Jump cond_no off)) step arms m text x =
     if not (cond_no == 7) && is_secret (val x.label.core 2) then step_branch (find (λ arm. arm.branch == x.pair.addr) arms) step m text (Jump cond_no off) x (add16 (add16 x.pair.addr 2) (distance off)) else step x
 step_arms_by o step arms m text x = step x
 
-unfoldable pub step_arms : (Point → Step) → List Arm → Module → List ℕ → Point → Step
+unfoldable pub step_arms : (Point → FlowStep) → List Arm → Module → List ℕ → Point → FlowStep
 step_arms step arms m text x = step_arms_by (met m.text text x.pair.addr) step arms m text x
 
 -- the step under terms and with certificates
-abbrev pub flow_under : Terms → Module → List ℕ → List Arm → Point → Step
+abbrev pub flow_under : Terms → Module → List ℕ → List Arm → Point → FlowStep
 flow_under terms m text arms = step_arms (flow_step terms m text) arms m text
 
 -- the verdict of a text under terms, with these certificates or with none

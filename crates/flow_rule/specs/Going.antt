@@ -8,36 +8,36 @@ use Rattle.flow_rule.specs.declared.Val.TheVariants.{Known, Away, Public}
 use Rattle.flow_rule.specs.Values.{set_each, val}
 use Rattle.flow_rule.specs.declared.Reason.{Reason}
 use Rattle.flow_rule.specs.declared.Reason.TheVariants.{UnknownTarget}
-use Rattle.flow_rule.specs.Rounds.{Found, Step}
+use Rattle.flow_rule.specs.Rounds.{Found, FlowStep}
 use Rattle.flow_rule.specs.Reasons.{because, exit_reasons, word_reasons}
 
 -- to close, no register and no flag may be secret but the answers, which are as if they were Public: the data become 0
-abbrev pub closes : Terms → ℕ → List Val → Step
+abbrev pub closes : Terms → ℕ → List Val → FlowStep
 closes terms pc core = record { reasons = exit_reasons 16 0 pc (set_each terms.answers Public core); gives = [] }
 
 -- to leave, no public word of the data either
-abbrev pub leaves : Terms → Module → ℕ → List Val → List Val → Step
-leaves terms m pc core words = record { reasons = word_reasons m pc words terms.public ++ exit_reasons 16 0 pc (set_each terms.answers Public core); gives = [] }
+abbrev pub exit_step : Terms → Module → ℕ → List Val → List Val → FlowStep
+exit_step terms m pc core words = record { reasons = word_reasons m pc words terms.public ++ exit_reasons 16 0 pc (set_each terms.answers Public core); gives = [] }
 
 -- on from pc with this core: to a known place, where inside the text the label is handed on, or away
-abbrev pub goes_by : Terms → Val → Module → ℕ → List ℕ → List Val → List Val → Step
+abbrev pub goes_by : Terms → Val → Module → ℕ → List ℕ → List Val → List Val → FlowStep
 goes_by terms (Known to) m pc returns core words =
     if holds m.text to then record { reasons = []; gives = record { pair = record { addr = to; returns = returns }; label = record { core = core; words = words } } ∷ [] }
-    else leaves terms m pc core words
-goes_by terms Away m pc returns core words = leaves terms m pc core words
+    else exit_step terms m pc core words
+goes_by terms Away m pc returns core words = exit_step terms m pc core words
 goes_by terms _ m pc returns core words = record { reasons = because pc UnknownTarget 0; gives = [] }
 
 -- on from pc, to where PC then points
-abbrev pub goes : Terms → Module → ℕ → List ℕ → List Val → List Val → Step
+abbrev pub goes : Terms → Module → ℕ → List ℕ → List Val → List Val → FlowStep
 goes terms m pc returns core words = goes_by terms (val core 0) m pc returns core words
 
 -- a branch that goes both ways
-abbrev pub both : Step → Step → Step
+abbrev pub both : FlowStep → FlowStep → FlowStep
 both a b = record { reasons = a.reasons ++ b.reasons; gives = a.gives ++ b.gives }
 
-abbrev pub also : List Found → Step → Step
+abbrev pub also : List Found → FlowStep → FlowStep
 also rs s = record { reasons = rs ++ s.reasons; gives = s.gives }
 
 -- nothing is met behind this instruction
-abbrev pub fails : ℕ → Reason → ℕ → Step
+abbrev pub fails : ℕ → Reason → ℕ → FlowStep
 fails pc why v = record { reasons = because pc why v; gives = [] }

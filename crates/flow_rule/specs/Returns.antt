@@ -24,23 +24,23 @@ last_is (Known v) xs = nat_lt 0 (length xs) && (v == slice_index xs (length xs -
 last_is _ xs = false
 
 -- without the newest
-abbrev pub but_last : List ℕ → List ℕ
-but_last xs = take (length xs - 1) xs
+abbrev pub without_newest : List ℕ → List ℕ
+without_newest xs = take (length xs - 1) xs
 
 -- what an instruction makes of the list
-pub record Turn : Type 0 where
+pub record ReturnTurn : Type 0 where
   pub reasons : List Found
   pub returns : List ℕ
   pub stops : Bool  -- a return to another place than the last address
 
 -- a call to an address: its return address comes last
-abbrev pub calls : ℕ → List ℕ → ℕ → Turn
+abbrev pub calls : ℕ → List ℕ → ℕ → ReturnTurn
 calls pc returns from = record { reasons = because_if (nat_le most_returns (length returns)) pc UnknownTarget 0; returns = returns ++ from ∷ []; stops = false }
 
 -- the list after an instruction whose reads gave these values
-abbrev pub turn_of : Insn → ℕ → List ℕ → List Val → Turn
-turn_of (One Call w a) pc returns values = calls pc returns (add16 pc (2 * length_of (One Call w a)))
-turn_of (Two Mov Word (Increment r) (Reg d)) pc returns values =
-    if (r == 1) && (d == 0) then record { reasons = []; returns = but_last returns; stops = not (last_is (nth 0 values Secret) returns) }
+abbrev pub return_turn : Insn → ℕ → List ℕ → List Val → ReturnTurn
+return_turn (One Call w a) pc returns values = calls pc returns (add16 pc (2 * length_of (One Call w a)))
+return_turn (Two Mov Word (Increment r) (Reg d)) pc returns values =
+    if (r == 1) && (d == 0) then record { reasons = []; returns = without_newest returns; stops = not (last_is (nth 0 values Secret) returns) }
     else record { reasons = []; returns = returns; stops = false }
-turn_of insn pc returns values = record { reasons = []; returns = returns; stops = false }
+return_turn insn pc returns values = record { reasons = []; returns = returns; stops = false }

@@ -16,7 +16,7 @@ use Rattle.flow_rule.specs.declared.Val.{Val}
 use Rattle.flow_rule.specs.declared.Val.TheVariants.{Known}
 use Rattle.flow_rule.specs.Values.{val, put_val}
 use Rattle.flow_rule.specs.declared.Reason.TheVariants.{UnknownTarget}
-use Rattle.flow_rule.specs.Rounds.{Point, Found, Step}
+use Rattle.flow_rule.specs.Rounds.{Point, Found, FlowStep}
 use Rattle.flow_rule.specs.declared.Reach.{Reach}
 use Rattle.flow_rule.specs.Does.{writes_val, past_val, lowered_val}
 use Rattle.flow_rule.specs.Reasons.{because_if, reach_reasons}
@@ -24,30 +24,30 @@ use Rattle.flow_rule.specs.Returns.{calls}
 use Rattle.flow_rule.specs.Steps.{step_of}
 
 -- word k of the text
-abbrev pub word_of : Module → List ℕ → ℕ → ℕ
-word_of m text k = word_at (text_byte m.text text) (m.text.start + 2 * k)
+abbrev pub text_word : Module → List ℕ → ℕ → ℕ
+text_word m text k = word_at (text_byte m.text text) (m.text.start + 2 * k)
 
 -- these words stand from word k on
 abbrev pub words_are : Module → List ℕ → ℕ → List ℕ → Bool
 words_are m text k [] = true
-words_are m text k (w ∷ ws) = (word_of m text k == w) && words_are m text (k + 1) ws
+words_are m text k (w ∷ ws) = (text_word m text k == w) && words_are m text (k + 1) ws
 
 -- the n addresses of the table are even and lie past it
 abbrev pub table_fine : Module → List ℕ → ℕ → ℕ → Bool
 table_fine m text entries zero = true
 table_fine m text entries (suc k) =
-    let a = word_of m text (front_words + k) in
+    let a = text_word m text (front_words + k) in
     (a % 2 == 0) && nat_le (m.text.start + 2 * front_words + 2 * entries) a && nat_lt a m.text.end && table_fine m text entries k
 
 -- how many entries the stub says that it has
 abbrev pub entries_of : Module → List ℕ → ℕ
-entries_of m text = word_of m text count_word
+entries_of m text = text_word m text count_word
 
 -- the text begins with its own stub: 1 to 64 entries, an even private stack within the data, a sound table
 unfoldable pub has_stub : Module → List ℕ → Bool
 has_stub m text =
-    let n = word_of m text count_word in
-    let p = word_of m text stack_word in
+    let n = text_word m text count_word in
+    let p = text_word m text stack_word in
     nat_le (stub_size n) (size_of m.text) && words_are m text 0 (stub_front m.text.start m.text.end m.ram.start n p)
     && nat_le 1 n && nat_le n most_entries && nat_le (m.ram.start + 4) p && (p % 2 == 0) && nat_le p m.ram.end
     && table_fine m text n n
@@ -69,7 +69,7 @@ abbrev pub shut_reasons : Module → ℕ → List Point → List Found
 shut_reasons m pc xs = flat_map (λ x. because_if (is_shut (word_number m x.pair.addr)) pc UnknownTarget 0) xs
 
 -- an instruction that is none of the open words may not go there
-abbrev pub shut_if : Bool → Module → ℕ → Step → Step
+abbrev pub shut_if : Bool → Module → ℕ → FlowStep → FlowStep
 shut_if true m pc s = s
 shut_if false m pc s = record { reasons = s.reasons ++ shut_reasons m pc s.gives; gives = s.gives }
 
@@ -77,14 +77,14 @@ shut_if false m pc s = record { reasons = s.reasons ++ shut_reasons m pc s.gives
 abbrev pub to_entries : Module → List ℕ → ℕ → List ℕ → List Val → List Val → List Point
 to_entries m text zero returns core words = []
 to_entries m text (suc k) returns core words =
-    let a = word_of m text (front_words + k) in
+    let a = text_word m text (front_words + k) in
     record { pair = record { addr = a; returns = returns }; label = record { core = put_val core 0 (Known a); words = words } } ∷ to_entries m text k returns core words
 
 abbrev pub call_entry : Module → Insn
 call_entry m = One Call Word (Indexed 6 (m.text.start + 2 * front_words))
 
 -- word 17: each address of the table, with the address of word 19 pushed
-abbrev pub step_entries : Module → List ℕ → Point → Step
+abbrev pub step_entries : Module → List ℕ → Point → FlowStep
 step_entries m text x =
     let pc = x.pair.addr in
     let core = lowered_val (past_val (call_entry m) pc x.label.core) in
@@ -96,7 +96,7 @@ step_entries m text x =
     }
 
 -- the call goes to each entry; every other word does its own step
-unfoldable pub step_stub : Terms → Module → List ℕ → Point → Step
+unfoldable pub step_stub : Terms → Module → List ℕ → Point → FlowStep
 step_stub terms m text x =
     let k = word_number m x.pair.addr in
     if k == call_word then step_entries m text x else shut_if (is_open k) m x.pair.addr (step_of terms m text x)

@@ -9,7 +9,7 @@ use Rattle.flow_rule.specs.declared.Val.{Val}
 use Rattle.flow_rule.specs.declared.Val.TheVariants.{Known, Away, Public, Secret}
 use Rattle.flow_rule.specs.Values.{set_each}
 use Rattle.flow_rule.specs.declared.Reason.TheVariants.{TooMany}
-use Rattle.flow_rule.specs.Rounds.{Point, Found, Step, IsLabelling, rounds, all_reasons}
+use Rattle.flow_rule.specs.Rounds.{Point, Found, FlowStep, IsLabelling, rounds, all_reasons}
 use Rattle.flow_rule.specs.Does.{word_no}
 use Rattle.flow_rule.specs.Reasons.{BeforeAll, AmongThem}
 use Rattle.flow_rule.specs.Steps.{step_of}
@@ -28,22 +28,22 @@ abbrev pub no_secret : ℕ → List Val
 no_secret pc = Known pc ∷ Public ∷ Public ∷ Known 0 ∷ replicate 12 Public
 
 -- a pair with nothing known of the data but that the public words are equal
-abbrev pub begins : Terms → Module → ℕ → List Val → Point
-begins terms m pc core = record { pair = record { addr = pc; returns = [] }; label = record { core = core; words = set_each (map (word_no m) terms.public) Public (replicate known_words Secret) } }
+abbrev pub start_point : Terms → Module → ℕ → List Val → Point
+start_point terms m pc core = record { pair = record { addr = pc; returns = [] }; label = record { core = core; words = set_each (map (word_no m) terms.public) Public (replicate known_words Secret) } }
 
 -- the start: no return address, nothing secret in the registers and flags; behind a stub's first words R7 is Away
 abbrev pub start_under : Terms → Module → List ℕ → Point
 start_under terms m text =
     let t = m.text.start in
     let body = t + 2 * body_word in
-    if has_stub m text then begins terms m body (slice_set (no_secret body) 7 Away) else begins terms m t (no_secret t)
+    if has_stub m text then start_point terms m body (slice_set (no_secret body) 7 Away) else start_point terms m t (no_secret t)
 
 -- the step of a text, with or without a stub
-abbrev pub flow_step : Terms → Module → List ℕ → Point → Step
+abbrev pub flow_step : Terms → Module → List ℕ → Point → FlowStep
 flow_step terms m text = if has_stub m text then step_stub terms m text else step_of terms m text
 
 -- Yes where no pair of the labelling has a reason; No with the least reason; TooMany as soon as a round has too many pairs
-abbrev pub Decided : (Point → Step) → Point → ℕ → Verdict → Type 0
+abbrev pub Decided : (Point → FlowStep) → Point → ℕ → Verdict → Type 0
 Decided step start begin Yes = (xs : List Point) × IsLabelling step start xs × (length xs ≤ most_pairs) × (all_reasons step xs ≡ [])
 Decided step start begin (No addr reason value) =
     let r : Found = record { addr = addr; why = reason; value = value } in

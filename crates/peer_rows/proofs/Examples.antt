@@ -11,7 +11,7 @@ use Rattle.arm_balance.specs.Met.{met}
 use Rattle.flow_rule.specs.Terms.{no_terms}
 use Rattle.flow_rule.specs.declared.Verdict.TheVariants.{Yes}
 use Rattle.flow_rule.specs.Does.{plan_val, does_val}
-use Rattle.flow_rule.specs.Rounds.{Point, Step, rounds, all_reasons}
+use Rattle.flow_rule.specs.Rounds.{Point, FlowStep, rounds, all_reasons}
 use Rattle.flow_rule.specs.Steps.{step_of}
 use Rattle.flow_rule.specs.Stub.{step_stub, has_stub}
 use Rattle.flow_rule.specs.Verdict.{start_under}
@@ -110,7 +110,7 @@ balanced_text = refl
 blind_accepted : VerdictWith (row_module 0x0306) (bytes_of blind) [] Yes
 unfolding bytes_of step_arms met step_of step_stub has_stub plan_val does_val insn_of
 blind_accepted =
-    let step : Point → Step = flow_under no_terms (row_module 0x0306) (bytes_of blind) [] in
+    let step : Point → FlowStep = flow_under no_terms (row_module 0x0306) (bytes_of blind) [] in
     let start : Point = start_under no_terms (row_module 0x0306) (bytes_of blind) in
     (rounds step start 3, record { rounds_to = 3; is = refl; stays = refl }, lit≤ tt, refl)
 

@@ -14,7 +14,7 @@ use Rattle.flow_rule.specs.declared.Reach.{Reach}
 use Rattle.flow_rule.specs.declared.Reason.TheVariants.{Arm as ArmInsn, ArmTime}
 use Rattle.flow_rule.specs.declared.Val.{Val}
 use Rattle.flow_rule.specs.Values.{is_secret}
-use Rattle.flow_rule.specs.Rounds.{Point, Found, Step}
+use Rattle.flow_rule.specs.Rounds.{Point, Found, FlowStep}
 use Rattle.flow_rule.specs.Reasons.{because, because_if}
 use Rattle.flow_rule.specs.Does.{write_reaches}
 use Rattle.flow_rule.specs.Arms.{Walk, Meets, Stops, written_reg, written_regs, written_words, blot, step_arm}
@@ -60,7 +60,7 @@ site_by (Some (Jump c off)) arms pc flags =
 site_by insn arms pc flags = None
 
 -- a step by the certificate, where there is one
-abbrev pub step_at : Option BranchSite → (Point → Step) → Module → List ℕ → Point → Step
+abbrev pub step_at : Option BranchSite → (Point → FlowStep) → Module → List ℕ → Point → FlowStep
 step_at None step m text x = step x
 step_at (Some c) step m text x = step_arm step m text c.insn c.target c.arm x
 

@@ -3,7 +3,7 @@ use Rattle.std.specs.Prelude.{◌≡◌, ◌⊎◌, ◌<◌, ◌/◌, ◌%◌, �
 use Rattle.std.specs.Prelude.{Bool, true, false, Option, Some, None}
 use Rattle.flow_rule.specs.declared.Label.{Label}
 use Rattle.flow_rule.specs.Absorbs.{Absorbs}
-use Rattle.flow_rule.specs.Rounds.{Pair, Point, Step, same_pair, join_label, given_by, rounds}
+use Rattle.flow_rule.specs.Rounds.{Pair, Point, FlowStep, same_pair, join_label, given_by, rounds}
 use Rattle.flow_check.specs.declared.labelling.Node.{Node}
 use Rattle.flow_check.specs.internal.Points.{pair_of, point_at, points_of}
 use Rattle.flow_check.specs.internal.Weights.{weight_label}
@@ -67,7 +67,7 @@ AllSubsumed [] ys = Unit {0}
 AllSubsumed (x ∷ xs) ys = Subsumed x ys × AllSubsumed xs ys
 
 -- what a program point that did not change gives is subsumed by ys
-abbrev pub Clean : (Point → Step) → List Node → List Point → Type 0
+abbrev pub Clean : (Point → FlowStep) → List Node → List Point → Type 0
 Clean step [] ys = Unit {0}
 Clean step (n ∷ ns) ys = (n.changed ≡ false → AllSubsumed (given_by (step (point_at n.point))) ys) × Clean step ns ys
 
@@ -84,7 +84,7 @@ abbrev pub StillKept : List Node → List Node → Type 0
 StillKept old new = (xs : List Point) → Kept xs old → Kept xs new
 
 -- after some iterations
-pub record Reached (step : Point → Step) (start : Point) (ns : List Node) : Type 0 where
+pub record Reached (step : Point → FlowStep) (start : Point) (ns : List Node) : Type 0 where
   pub turns : ℕ
   pub is : points_of ns ≡ rounds step start turns
   pub clean : Clean step ns (points_of ns)

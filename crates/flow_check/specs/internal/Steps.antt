@@ -6,7 +6,7 @@ use Rattle.mod_layout.specs.declared.Module.{Module}
 use Rattle.flow_rule.specs.Terms.{Terms}
 use Rattle.flow_rule.specs.declared.Label.{Label}
 use Rattle.flow_rule.specs.declared.Val.TheVariants.{Public}
-use Rattle.flow_rule.specs.Rounds.{Step}
+use Rattle.flow_rule.specs.Rounds.{FlowStep}
 use Rattle.flow_rule.specs.Values.{put_val}
 use Rattle.flow_rule.specs.Does.{does_val, past_val}
 use Rattle.flow_rule.specs.Going.{goes}
@@ -16,32 +16,32 @@ use Rattle.flow_check.specs.internal.Violations.{noted}
 use Rattle.flow_check.specs.internal.Points.{list_of, addrs_of, points_at}
 
 -- without reasons, all that a step gives has these return addresses and this state
-abbrev pub SuccessorsAlike : Step → CallString → Label → Type 0
+abbrev pub SuccessorsAlike : FlowStep → CallString → Label → Type 0
 SuccessorsAlike step returns label =
     step.reasons ≡ [] → step.gives ≡ points_at (addrs_of step.gives) (list_of returns) label
 
 -- a step was told: the least of its violations and of what was there, and where it goes on
-pub record Tells (step : Step) (old new : Stepped) (state : Label) : Type 0 where
+pub record Tells (step : FlowStep) (old new : Stepped) (state : Label) : Type 0 where
   pub least : new.least ≡ noted step.reasons old.least
   pub targets : new.targets.items ≡ old.targets.items ++ addrs_of step.gives
   pub successors : SuccessorsAlike step new.call_string state
 
 -- the same where nothing was told before
-pub record Gives (step : Step) (new : Stepped) (state : Label) : Type 0 where
+pub record Gives (step : FlowStep) (new : Stepped) (state : Label) : Type 0 where
   pub least : new.least ≡ noted step.reasons None
   pub targets : new.targets.items ≡ addrs_of step.gives
   pub successors : SuccessorsAlike step new.call_string state
 
 -- the step to where a jump goes
-abbrev pub jump_step : Terms → Module → Insn → ℕ → CallString → Label → Step
+abbrev pub jump_step : Terms → Module → Insn → ℕ → CallString → Label → FlowStep
 jump_step terms m insn pc returns label = goes terms m pc (list_of returns) (does_val insn pc label.core []).core label.words
 
 -- the step to the next instruction
-abbrev pub next_step : Terms → Module → Insn → ℕ → CallString → Label → Step
+abbrev pub next_step : Terms → Module → Insn → ℕ → CallString → Label → FlowStep
 next_step terms m insn pc returns label = goes terms m pc (list_of returns) (past_val insn pc label.core) label.words
 
 -- the step past an instruction that names a module in R15
-abbrev pub id_step : Terms → Module → Insn → ℕ → CallString → Label → Step
+abbrev pub id_step : Terms → Module → Insn → ℕ → CallString → Label → FlowStep
 id_step terms m insn pc returns label =
     goes terms m pc (list_of returns) (put_val (past_val insn pc label.core) 15 Public) label.words
 

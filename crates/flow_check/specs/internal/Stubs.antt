@@ -6,7 +6,7 @@ use Rattle.mod_layout.specs.Table.{size_of}
 use Rattle.flow_rule.specs.declared.Val.{Val}
 use Rattle.flow_rule.specs.declared.Val.TheVariants.{Away}
 use Rattle.mod_layout.specs.declared.TheConstants.{FIRST_VECTOR}
-use Rattle.flow_rule.specs.Stub.{word_of, has_stub, entries_of}
+use Rattle.flow_rule.specs.Stub.{text_word, has_stub, entries_of}
 use Rattle.flow_rule.specs.Verdict.{no_secret}
 
 -- the sizes and the stack's end
@@ -18,7 +18,7 @@ fits_of m n p =
 -- one address of the table
 abbrev pub entry_fine : Module → List ℕ → ℕ → ℕ → Bool
 entry_fine m text n k =
-    let a = word_of m text (38 + k) in (a % 2 == 0) && nat_le (m.text.start + 76 + 2 * n) a && nat_lt a m.text.end
+    let a = text_word m text (38 + k) in (a % 2 == 0) && nat_le (m.text.start + 76 + 2 * n) a && nat_lt a m.text.end
 
 -- the registers at the start
 abbrev pub first_core : Bool → ℕ → List Val

@@ -7,7 +7,7 @@ use Rattle.flow_rule.specs.declared.Reason.TheVariants.{UnknownTarget}
 use Rattle.flow_rule.specs.declared.Verdict.{Verdict}
 use Rattle.flow_rule.specs.declared.Verdict.TheVariants.{Yes, No}
 use Rattle.flow_rule.specs.Reasons.{number_of, because_if}
-use Rattle.flow_rule.specs.Stub.{is_shut, word_number, word_of}
+use Rattle.flow_rule.specs.Stub.{is_shut, word_number, text_word}
 use Rattle.flow_check.specs.declared.violation.Violation.{Violation}
 
 -- first by the address, then by the reason's number, then by the value
@@ -42,7 +42,7 @@ shut_at m pc (a ∷ more) = because_if (is_shut (word_number m a)) pc UnknownTar
 -- the addresses of a stub's table, the last first
 abbrev pub entry_addrs : Module → List ℕ → ℕ → List ℕ
 entry_addrs m text zero = []
-entry_addrs m text (suc n) = word_of m text (38 + n) ∷ entry_addrs m text n
+entry_addrs m text (suc n) = text_word m text (38 + n) ∷ entry_addrs m text n
 
 -- the reason that a violation stands for
 abbrev pub found : Violation → Found

@@ -1,7 +1,7 @@
 use Rattle.std.proofs.Common.{◌≡◌, ◌∙◌, ap, sym, ℕ, [], slice_set}
 use Rattle.flow_rule.specs.declared.Val.TheVariants.{Known}
 use Rattle.flow_rule.specs.Does.{plan_val}
-use Rattle.flow_rule.specs.Rounds.{Point, Step}
+use Rattle.flow_rule.specs.Rounds.{Point, FlowStep}
 use Rattle.flow_check.specs.internal.Arms.{told_insn, told}
 use Rattle.flow_check.specs.internal.Points.{list_of, point_at}
 use Rattle.flow_check.specs.internal.Programs.{base_flow, arm_walk}
@@ -13,7 +13,7 @@ pub returns-in-None-clause-stops : goal.returns-in-None-clause-stops
 returns-in-None-clause-stops c = λ steps.
     let p = c.args.program.now in
     let x : Point = point_at c.args.point.now in
-    let S : Point → Step = base_flow p in
+    let S : Point → FlowStep = base_flow p in
     let new = c.step_point-stepped.result in
     let gives = c.step_point-stepped.ensures in
     let none : (S x).reasons ≡ [] = none_found (S x).reasons (sym gives.least ∙ none_some new.least (sym c.is_some.ensures ∙ c.if-is_some.false)) in
@@ -29,7 +29,7 @@ returns-in-Some-first_of-clause-on c = λ steps.
     let t = c.args.tally.now in
     let insn = c.in-Some.insn in
     let to : ℕ = c.in-Some-first_of.to in
-    let S : Point → Step = base_flow p in
+    let S : Point → FlowStep = base_flow p in
     let new = c.step_point-stepped.result in
     let state = c.step_point-stepped.new.point.state in
     let gives = c.step_point-stepped.ensures in

@@ -1,5 +1,5 @@
 use Rattle.std.proofs.Common.{◌∙◌, ◌++◌, ap, subst}
-use Rattle.flow_rule.specs.Rounds.{Step}
+use Rattle.flow_rule.specs.Rounds.{FlowStep}
 use Rattle.flow_check.specs.internal.Violations.{noted}
 use Rattle.flow_check.specs.internal.Points.{addrs_of, point_at, point_of}
 use Rattle.flow_check.specs.internal.Programs.{base_flow}
@@ -10,7 +10,7 @@ pub returns : goal.returns
 returns c =
     let p = c.args.program.now in
     let x = c.args.point.now in
-    let step : Step = base_flow p (point_at x) in
+    let step : FlowStep = base_flow p (point_at x) in
     let told : Tells step c.new-stepped.result c.step_base.new.stepped c.step_base.new.state =
     subst (λ r. Tells (base_flow p (point_of x.addr r x.state)) c.new-stepped.result c.step_base.new.stepped c.step_base.new.state) c.new-stepped.ensures.call_string c.step_base.ensures in record {
       least = told.least ∙ ap (noted step.reasons) c.new-stepped.ensures.least;
