@@ -5,14 +5,14 @@ use Rattle.std.proofs.lemmas.List.{get_or-take, length-take, take-take}
 use Rattle.flow_rule.specs.declared.Val.{Val}
 use Rattle.flow_rule.specs.declared.Val.TheVariants.{Known}
 use Rattle.flow_rule.specs.Returns.{last_is, without_newest}
-use Rattle.flow_check.specs.internal.Carries.{is_known}
+use Rattle.flow_check.specs.internal.Carries.{is_number}
 
 pub but_of : (n k : ℕ) (xs : List ℕ) → k ≡ length (take n xs) → take (k - 1) xs ≡ without_newest (take n xs)
 but_of n k xs e =
     let few = length-take n xs in
     sym (take-take (k - 1) n xs (omega (arith, e, few))) ∙ ap (λ k. take (k - 1) (take n xs)) e
 
-pub last_of : (u : Val) (n k : ℕ) (xs : List ℕ) → k ≡ length (take n xs) → 0 < k → is_known u (get_or xs (k - 1) 0) ≡ last_is u (take n xs)
+pub last_of : (u : Val) (n k : ℕ) (xs : List ℕ) → k ≡ length (take n xs) → 0 < k → is_number u (get_or xs (k - 1) 0) ≡ last_is u (take n xs)
 last_of (Known v) n k xs e h =
     let zs : List ℕ = take n xs in
     let few = length-take n xs in

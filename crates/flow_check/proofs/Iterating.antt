@@ -12,7 +12,7 @@ use Rattle.flow_rule.specs.Rounds.{Pair, Point, FlowStep, same_pair, join_label,
 use Rattle.flow_check.specs.declared.labelling.Node.{Node}
 use Rattle.flow_check.specs.internal.Points.{point_at, points_of}
 use Rattle.flow_check.proofs.Joins.{join_own}
-use Rattle.flow_check.specs.internal.Labellings.{joined, flagged, Subsumed, AllSubsumed, Clean, Kept, Reached}
+use Rattle.flow_check.specs.internal.Labellings.{joined_point, changed_points, Subsumed, AllSubsumed, Clean, KeptPoints, Reached}
 
 -- ---- joins subsume
 same_num : (a : ℕ) → (a == a) ≡ true
@@ -86,7 +86,7 @@ absorbs_more : (a b l : Label) → Absorbs a b → Absorbs (join_label a l) b
 absorbs_more a b l h = record { core = each_stays a.core b.core l.core h.core; words = each_stays a.words b.words l.words h.words }
 
 -- joining what is absorbed changes nothing
-joins_same : (x y : Point) → Absorbs y.label x.label → joined y x.label ≡ y
+joins_same : (x y : Point) → Absorbs y.label x.label → joined_point y x.label ≡ y
 joins_same x y h = ap (λ c. record y { label = record { core = c; words = join_each y.label.words x.label.words } }) h.core ∙ ap (λ w. record y { label = record y.label { words = w } }) h.words
 
 subsumed_by : (x y : Point) (ys : List Point) (c : Bool) → same_pair y.pair x.pair ≡ c → cond {A = Type 0} c (Absorbs y.label x.label) (Subsumed x ys) → Subsumed x (y ∷ ys)
@@ -96,7 +96,7 @@ subsumed_same : (x : Point) (ys : List Point) → Subsumed x ys → join_in x ys
 subsumed_same x [] h = absurd h
 subsumed_same x (y ∷ ys) h = by (same_pair y.pair x.pair) h (subsumed_same x ys)
   where
-    by : (c : Bool) → cond {A = Type 0} c (Absorbs y.label x.label) (Subsumed x ys) → (Subsumed x ys → join_in x ys ≡ ys) → cond c (joined y x.label ∷ ys) (y ∷ join_in x ys) ≡ y ∷ ys
+    by : (c : Bool) → cond {A = Type 0} c (Absorbs y.label x.label) (Subsumed x ys) → (Subsumed x ys → join_in x ys ≡ ys) → cond c (joined_point y x.label ∷ ys) (y ∷ join_in x ys) ≡ y ∷ ys
     by true h go = ap (λ z. z ∷ ys) (joins_same x y h)
     by false h go = ap (λ i. y ∷ i) (go h)
 
@@ -104,8 +104,8 @@ in_subsumes : (x : Point) (ys : List Point) → Subsumed x (join_in x ys)
 in_subsumes x [] = subsumed_by x x [] true (pair_self x.pair) (absorbs_own x.label)
 in_subsumes x (y ∷ ys) = by (same_pair y.pair x.pair) refl (in_subsumes x ys)
   where
-    by : (c : Bool) → same_pair y.pair x.pair ≡ c → Subsumed x (join_in x ys) → Subsumed x (cond c (joined y x.label ∷ ys) (y ∷ join_in x ys))
-    by true e go = subsumed_by x (joined y x.label) ys true e (absorbs_joined y.label x.label)
+    by : (c : Bool) → same_pair y.pair x.pair ≡ c → Subsumed x (join_in x ys) → Subsumed x (cond c (joined_point y x.label ∷ ys) (y ∷ join_in x ys))
+    by true e go = subsumed_by x (joined_point y x.label) ys true e (absorbs_joined y.label x.label)
     by false e go = subsumed_by x y (join_in x ys) false e go
 
 stays_subsumed : (x z : Point) (ys : List Point) → Subsumed x ys → Subsumed x (join_in z ys)
@@ -113,9 +113,9 @@ stays_subsumed x z [] h = absurd h
 stays_subsumed x z (y ∷ ys) h = by (same_pair y.pair z.pair) (same_pair y.pair x.pair) refl h (stays_subsumed x z ys)
   where
     by : (c d : Bool) → same_pair y.pair x.pair ≡ d → cond {A = Type 0} d (Absorbs y.label x.label) (Subsumed x ys) → (Subsumed x ys → Subsumed x (join_in z ys)) →
-        Subsumed x (cond c (joined y z.label ∷ ys) (y ∷ join_in z ys))
-    by true true e h go = subsumed_by x (joined y z.label) ys true e (absorbs_more y.label x.label z.label h)
-    by true false e h go = subsumed_by x (joined y z.label) ys false e h
+        Subsumed x (cond c (joined_point y z.label ∷ ys) (y ∷ join_in z ys))
+    by true true e h go = subsumed_by x (joined_point y z.label) ys true e (absorbs_more y.label x.label z.label h)
+    by true false e h go = subsumed_by x (joined_point y z.label) ys false e h
     by false true e h go = subsumed_by x y (join_in z ys) true e h
     by false false e h go = subsumed_by x y (join_in z ys) false e (go h)
 
@@ -141,16 +141,16 @@ clean_stays step [] zs ys h = tt
 clean_stays step (n ∷ ns) zs ys h = ((λ e. stay_more (given_by (step (point_at n.point))) zs ys (h.0 e)), clean_stays step ns zs ys h.1)
 
 -- an iteration needs those alone
-flagged_round : (step : Point → FlowStep) (ns : List Node) (ys : List Point) → Clean step ns ys → join_all (given_points step (points_of ns)) ys ≡ join_all (given_points step (flagged ns)) ys
+flagged_round : (step : Point → FlowStep) (ns : List Node) (ys : List Point) → Clean step ns ys → join_all (given_points step (points_of ns)) ys ≡ join_all (given_points step (changed_points ns)) ys
 flagged_round step [] ys h = refl
 flagged_round step (n ∷ ns) ys h = join_append gs (given_points step (points_of ns)) ys ∙ by n.changed refl (flagged_round step ns)
   where
     gs : List Point
     gs = given_by (step (point_at n.point))
 
-    by : (c : Bool) → n.changed ≡ c → ((ys : List Point) → Clean step ns ys → join_all (given_points step (points_of ns)) ys ≡ join_all (given_points step (flagged ns)) ys) →
-        join_all (given_points step (points_of ns)) (join_all gs ys) ≡ join_all (given_points step (cond c (point_at n.point ∷ flagged ns) (flagged ns))) ys
-    by true e go = go (join_all gs ys) (clean_stays step ns gs ys h.1) ∙ sym (join_append gs (given_points step (flagged ns)) ys)
+    by : (c : Bool) → n.changed ≡ c → ((ys : List Point) → Clean step ns ys → join_all (given_points step (points_of ns)) ys ≡ join_all (given_points step (changed_points ns)) ys) →
+        join_all (given_points step (points_of ns)) (join_all gs ys) ≡ join_all (given_points step (cond c (point_at n.point ∷ changed_points ns) (changed_points ns))) ys
+    by true e go = go (join_all gs ys) (clean_stays step ns gs ys h.1) ∙ sym (join_append gs (given_points step (changed_points ns)) ys)
     by false e go = ap (λ i. join_all (given_points step (points_of ns)) i) (subsumed_all gs ys (h.0 e)) ∙ go ys h.1
 
 joined_subsumes : (xs ys : List Point) → AllSubsumed xs (join_all xs ys)
@@ -176,7 +176,7 @@ stepped_subsumed step (y ∷ front) ys x (inr h) =
     subst (λ z. AllSubsumed (given_by (step x)) z) (sym (join_append (given_by (step y)) (given_points step front) ys)) (stepped_subsumed step front (join_all (given_by (step y)) ys) x h)
 
 -- ---- an iteration
-clean_go : (step : Point → FlowStep) (front start : List Point) (ns ms : List Node) → Clean step ns start → Kept (points_of ns) ms → ((z : Point) → IsOne z (flagged ns) → IsOne z front) →
+clean_go : (step : Point → FlowStep) (front start : List Point) (ns ms : List Node) → Clean step ns start → KeptPoints (points_of ns) ms → ((z : Point) → IsOne z (changed_points ns) → IsOne z front) →
     Clean step ms (join_all (given_points step front) start)
 clean_go step front start [] [] c k h = tt
 clean_go step front start (n ∷ ns) [] c k h = absurd k
@@ -189,24 +189,24 @@ clean_go step front start (n ∷ ns) (m ∷ ms) c k h = by n.changed refl h (cle
     one : AllSubsumed (given_by (step x)) (join_all (given_points step front) start) → m.changed ≡ false → AllSubsumed (given_by (step (point_at m.point))) (join_all (given_points step front) start)
     one a e = subst (λ z. AllSubsumed (given_by (step z)) (join_all (given_points step front) start)) (sym (k.0 e)) a
 
-    by : (b : Bool) → n.changed ≡ b → ((z : Point) → IsOne z (cond b (x ∷ flagged ns) (flagged ns)) → IsOne z front) →
-        (((z : Point) → IsOne z (flagged ns) → IsOne z front) → Clean step ms (join_all (given_points step front) start)) → Clean step (m ∷ ms) (join_all (given_points step front) start)
+    by : (b : Bool) → n.changed ≡ b → ((z : Point) → IsOne z (cond b (x ∷ changed_points ns) (changed_points ns)) → IsOne z front) →
+        (((z : Point) → IsOne z (changed_points ns) → IsOne z front) → Clean step ms (join_all (given_points step front) start)) → Clean step (m ∷ ms) (join_all (given_points step front) start)
     by true e h go = (one (stepped_subsumed step front start x (h x (inl refl))), go (λ z i. h z (inr i)))
     by false e h go = (one (stay_more (given_by (step x)) (given_points step front) start (c.0 e)), go h)
 
-module _ (step : Point → FlowStep) (start : Point) (ns cs : List Node) (front : List Point) (r : Reached step start ns) (f : front ≡ flagged ns) (same : points_of cs ≡ points_of ns)
+module _ (step : Point → FlowStep) (start : Point) (ns cs : List Node) (front : List Point) (r : Reached step start ns) (f : front ≡ changed_points ns) (same : points_of cs ≡ points_of ns)
   where
     -- what those that changed give makes the next round
     to_round : join_all (given_points step front) (points_of cs) ≡ round step (points_of ns)
     to_round = ap (λ p. join_all (given_points step front) p) same ∙ ap (λ g. join_all (given_points step g) (points_of ns)) f ∙ sym (flagged_round step ns (points_of ns) r.clean)
 
     -- one iteration more
-    pub reached_more : (ms : List Node) → points_of ms ≡ join_all (given_points step front) (points_of cs) → Kept (points_of cs) ms → Reached step start ms
+    pub reached_more : (ms : List Node) → points_of ms ≡ join_all (given_points step front) (points_of cs) → KeptPoints (points_of cs) ms → Reached step start ms
     reached_more ms e k = record {
       turns = suc r.turns;
       is = e ∙ to_round ∙ ap (round step) r.is;
       clean = subst (λ z. Clean step ms z) (sym (e ∙ ap (λ p. join_all (given_points step front) p) same ∙ ap (λ g. join_all (given_points step g) (points_of ns)) f))
-          (clean_go step (flagged ns) (points_of ns) ns ms r.clean (subst (λ p. Kept p ms) same k) (λ z i. i));
+          (clean_go step (changed_points ns) (points_of ns) ns ms r.clean (subst (λ p. KeptPoints p ms) same k) (λ z i. i));
     }
 
     -- where nothing changed it rests

@@ -11,7 +11,7 @@ use Rattle.flow_check.specs.declared.point.Point.{Point as CodePoint}
 use Rattle.flow_check.specs.declared.labelling.Node.{Node}
 use Rattle.flow_check.proofs.Iterating.{pair_self}
 use Rattle.flow_check.specs.internal.Points.{pair_of, point_at, points_of}
-use Rattle.flow_check.specs.internal.Labellings.{same_found, same_at, Other, Distinct, joined}
+use Rattle.flow_check.specs.internal.Labellings.{same_found, same_at, Other, Distinct, joined_point}
 
 list_is : (xs ys : List ℕ) → pointwise nat_eq xs ys ≡ true → xs ≡ ys
 list_is [] [] e = refl
@@ -53,16 +53,16 @@ more_others p x (y ∷ ys) e h = by (same_pair y.pair x.pair) (more_others p x y
     tail : All (Other p) ys
     tail k d lt = h (suc k) d (omega (arith, lt))
 
-    by : (b : Bool) → (All (Other p) ys → All (Other p) (join_in x ys)) → All (Other p) (cond b (joined y x.label ∷ ys) (y ∷ join_in x ys))
-    by true go = All-cons (Other p) (joined y x.label) ys head tail
+    by : (b : Bool) → (All (Other p) ys → All (Other p) (join_in x ys)) → All (Other p) (cond b (joined_point y x.label ∷ ys) (y ∷ join_in x ys))
+    by true go = All-cons (Other p) (joined_point y x.label) ys head tail
     by false go = All-cons (Other p) y (join_in x ys) head (go tail)
 
 distinct_in : (x : Point) (ys : List Point) → Distinct ys → Distinct (join_in x ys)
 distinct_in x [] h = AllPairs-cons (λ (x y : Point). Other x.pair y) x [] (All-nil (Other x.pair)) h
 distinct_in x (y ∷ ys) h = by (same_pair y.pair x.pair) refl (distinct_in x ys (others y ys h))
   where
-    by : (b : Bool) → same_pair y.pair x.pair ≡ b → Distinct (join_in x ys) → Distinct (cond b (joined y x.label ∷ ys) (y ∷ join_in x ys))
-    by true e go = AllPairs-cons (λ (x y : Point). Other x.pair y) (joined y x.label) ys (first y ys h) (others y ys h)
+    by : (b : Bool) → same_pair y.pair x.pair ≡ b → Distinct (join_in x ys) → Distinct (cond b (joined_point y x.label ∷ ys) (y ∷ join_in x ys))
+    by true e go = AllPairs-cons (λ (x y : Point). Other x.pair y) (joined_point y x.label) ys (first y ys h) (others y ys h)
     by false e go = AllPairs-cons (λ (x y : Point). Other x.pair y) y (join_in x ys) (more_others y.pair x ys (other_way y.pair x.pair e) (first y ys h)) go
 
 -- ---- a point that is there
@@ -72,24 +72,24 @@ got P (m ∷ ns) zero n h e = subst (λ z. P (point_at z.point)) (same_Some m n 
 got P (m ∷ ns) (suc i) n h e = got P ns i n (λ k d lt. h (suc k) d (omega (arith, lt))) e
 
 joins_found : (x : Point) (ns : List Node) (i : ℕ) (n : Node) → Distinct (points_of ns) → slice_get ns i ≡ Some n → same_pair (pair_of n.point) x.pair ≡ true →
-    set (points_of ns) i (joined (point_at n.point) x.label) ≡ join_in x (points_of ns)
+    set (points_of ns) i (joined_point (point_at n.point) x.label) ≡ join_in x (points_of ns)
 joins_found x [] i n h e s = absurd cc
 joins_found x (m ∷ ns) zero n h e s = by (same_pair (pair_of m.point) x.pair) (subst (λ z. same_pair (pair_of z.point) x.pair ≡ true) (sym (same_Some m n e)) s)
   where
-    by : (b : Bool) → b ≡ true → joined (point_at n.point) x.label ∷ points_of ns ≡ cond b (joined (point_at m.point) x.label ∷ points_of ns) (point_at m.point ∷ join_in x (points_of ns))
-    by true f = ap (λ z. joined (point_at z.point) x.label ∷ points_of ns) (sym (same_Some m n e))
+    by : (b : Bool) → b ≡ true → joined_point (point_at n.point) x.label ∷ points_of ns ≡ cond b (joined_point (point_at m.point) x.label ∷ points_of ns) (point_at m.point ∷ join_in x (points_of ns))
+    by true f = ap (λ z. joined_point (point_at z.point) x.label ∷ points_of ns) (sym (same_Some m n e))
     by false f = absurd cc
 joins_found x (m ∷ ns) (suc i) n h e s = by (same_pair (pair_of m.point) x.pair) refl (joins_found x ns i n (others (point_at m.point) (points_of ns) h) e s)
   where
-    by : (b : Bool) → same_pair (pair_of m.point) x.pair ≡ b → set (points_of ns) i (joined (point_at n.point) x.label) ≡ join_in x (points_of ns) →
-        point_at m.point ∷ set (points_of ns) i (joined (point_at n.point) x.label) ≡ cond b (joined (point_at m.point) x.label ∷ points_of ns) (point_at m.point ∷ join_in x (points_of ns))
+    by : (b : Bool) → same_pair (pair_of m.point) x.pair ≡ b → set (points_of ns) i (joined_point (point_at n.point) x.label) ≡ join_in x (points_of ns) →
+        point_at m.point ∷ set (points_of ns) i (joined_point (point_at n.point) x.label) ≡ cond b (joined_point (point_at m.point) x.label ∷ points_of ns) (point_at m.point ∷ join_in x (points_of ns))
     by false f go = ap (λ xs. point_at m.point ∷ xs) go
     by true f go =
         let other : same_pair (pair_of n.point) (pair_of m.point) ≡ false = got (Other (pair_of m.point)) ns i n (first (point_at m.point) (points_of ns) h) e in
         absurd (both_ways (same_pair (pair_of n.point) x.pair) (subst (λ p. same_pair (pair_of n.point) p ≡ false) (pair_is (pair_of m.point) x.pair f) other) s)
 
 module _ (p : CodePoint) (ns : List Node) (i : ℕ) (h : Distinct (points_of ns)) (s : same_at (pair_of p) ns i ≡ true) (after : List Point)
-    (e : (n : Node) → slice_get ns i ≡ Some n → after ≡ set (points_of ns) i (joined (point_at n.point) p.state))
+    (e : (n : Node) → slice_get ns i ≡ Some n → after ≡ set (points_of ns) i (joined_point (point_at n.point) p.state))
   where
     pub joins_rise : after ≡ join_in (point_at p) (points_of ns)
     joins_rise = by (slice_get ns i) refl s
@@ -108,7 +108,7 @@ joins_new [] p h = refl
 joins_new (n ∷ ns) p h = by (same_pair (pair_of n.point) (pair_of p)) (h 0 (omega arith)) (joins_new ns p (λ k lt. h (suc k) (omega (arith, lt))))
   where
     by : (b : Bool) → b ≡ false → points_of (ns ++ record { point = p; changed = true } ∷ []) ≡ join_in (point_at p) (points_of ns) →
-        point_at n.point ∷ points_of (ns ++ record { point = p; changed = true } ∷ []) ≡ cond b (joined (point_at n.point) p.state ∷ points_of ns) (point_at n.point ∷ join_in (point_at p) (points_of ns))
+        point_at n.point ∷ points_of (ns ++ record { point = p; changed = true } ∷ []) ≡ cond b (joined_point (point_at n.point) p.state ∷ points_of ns) (point_at n.point ∷ join_in (point_at p) (points_of ns))
     by false e go = ap (λ xs. point_at n.point ∷ xs) go
     by true e go = absurd cc
 

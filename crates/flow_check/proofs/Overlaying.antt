@@ -6,7 +6,7 @@ use Rattle.flow_rule.specs.declared.Val.{Val}
 use Rattle.flow_rule.specs.declared.Val.TheVariants.{Known, Public, Secret}
 use Rattle.flow_rule.specs.Values.{set_each, kept_val, put_val}
 use Rattle.flow_rule.specs.Arms.{Walk, Meets, Stops, blot_core, blot}
-use Rattle.flow_check.specs.internal.Summaries.{blank, laid, overlay}
+use Rattle.flow_check.specs.internal.Summaries.{blank_label, laid, overlay}
 
 over_set : (b c : List Val) (n : ℕ) (v : Val) → ((x : Val) → laid v x ≡ v) →
     overlay (set b n v) c ≡ set (overlay b c) n v
@@ -44,9 +44,9 @@ over_public (suc n) (x ∷ c) e = ap (λ i. x ∷ i) (over_public n c (omega ari
 abbrev pub over : Label → Label → Label
 over b l = record { core = overlay b.core l.core; words = overlay b.words l.words }
 
-over_blank : (l : Label) → length l.core ≡ 16 → length l.words ≡ 256 → over blank l ≡ l
+over_blank : (l : Label) → length l.core ≡ 16 → length l.words ≡ 256 → over blank_label l ≡ l
 over_blank l core words =
-    ap (λ v. record { core = v; words = overlay blank.words l.words }) (over_public 16 l.core core)
+    ap (λ v. record { core = v; words = overlay blank_label.words l.words }) (over_public 16 l.core core)
     ∙ ap (λ v. record l { words = v }) (over_public 256 l.words words)
 
 over_blot : (w : Walk) (b l : Label) → over (blot w b) l ≡ blot w (over b l)
@@ -57,6 +57,6 @@ over_blot (Meets cycles regs words) b l =
 over_blot (Stops addr) b l = refl
 
 pub over_both : (w0 w1 : Walk) (l : Label) → length l.core ≡ 16 → length l.words ≡ 256 →
-    over (blot w1 (blot w0 blank)) l ≡ blot w1 (blot w0 l)
+    over (blot w1 (blot w0 blank_label)) l ≡ blot w1 (blot w0 l)
 over_both w0 w1 l core words =
-    over_blot w1 (blot w0 blank) l ∙ ap (blot w1) (over_blot w0 blank l ∙ ap (blot w0) (over_blank l core words))
+    over_blot w1 (blot w0 blank_label) l ∙ ap (blot w1) (over_blot w0 blank_label l ∙ ap (blot w0) (over_blank l core words))

@@ -7,7 +7,7 @@ use Rattle.mod_layout.specs.declared.Module.{Module}
 use Rattle.mod_layout.specs.Table.{holds}
 use Rattle.flow_check.specs.declared.program.Program.{Program}
 use Rattle.flow_check.specs.internal.Programs.{flow_at, untaken_walk, taken_walk}
-use Rattle.flow_check.specs.internal.Terms.{terms_of}
+use Rattle.flow_check.specs.internal.Terms.{terms_in}
 use Rattle.flow_rule.specs.declared.Val.{Val}
 use Rattle.flow_rule.specs.declared.Label.{Label}
 use Rattle.flow_rule.specs.declared.Reason.TheVariants.{Arm as ArmInsn}
@@ -18,7 +18,7 @@ use Rattle.flow_rule.specs.Absorbs.{Absorbs, ArmsRest}
 use Rattle.flow_check.specs.declared.branch.BranchSite.{BranchSite}
 use Rattle.flow_check.specs.declared.summaries.Answer.TheVariants.{Open, Shut}
 use Rattle.flow_check.specs.declared.summaries.Summary.{Summary}
-use Rattle.flow_check.specs.internal.Summaries.{laid, overlay, clobbered, blank, branch_from, OpensTo, ComesTo, IsSummary, AreSummaries}
+use Rattle.flow_check.specs.internal.Summaries.{laid, overlay, clobbered, blank_label, branch_from, OpensTo, ComesTo, IsSummary, AreSummaries}
 use Rattle.flow_check.specs.declared.violation.Violation.{Violation}
 use Rattle.flow_check.specs.declared.call_string.CallString.{CallString}
 use Rattle.flow_check.specs.internal.Violations.{noted}
@@ -35,7 +35,7 @@ reasons_by m c pc w0 w1 =
 module _ (rest : ArmsRest) (p : Program) (c : BranchSite) (top x : Point) (pc : x.pair.addr ≡ top.pair.addr) (h : Absorbs top.label x.label) (calm : (flow_at p c top).reasons ≡ [])
   where
     same : (untaken_walk p c x ≡ untaken_walk p c top) × (taken_walk p c x ≡ taken_walk p c top)
-    same = rest (terms_of p) p.module.now p.text.now c.insn c.target c.arm top x p.exact.even pc h calm
+    same = rest (terms_in p) p.module.now p.text.now c.insn c.target c.arm top x p.exact.even pc h calm
 
     pub calm_too : (flow_at p c x).reasons ≡ []
     unfolding reasons_by
@@ -54,11 +54,11 @@ pub opens : ArmsRest → (p : Program) (s : Summary) (told : Label) → s.answer
 opens rest p s told e is c pc returns l l1 eb ec h core words el =
     let b : Point = branch_from s.branch [] s.state in
     let x : Point = branch_from pc returns l in
-    let it : ((flow_at p s.site b).reasons ≡ []) × (told ≡ clobbered p s.site b blank) = subst (ComesTo p s.site b) e is in
+    let it : ((flow_at p s.site b).reasons ≡ []) × (told ≡ clobbered p s.site b blank_label) = subst (ComesTo p s.site b) e is in
     let calm : (flow_at p c b).reasons ≡ [] = subst (λ c. (flow_at p c b).reasons ≡ []) ec it.0 in
-    let same : told ≡ clobbered p c b blank = it.1 ∙ ap (λ c. clobbered p c b blank) ec in (
+    let same : told ≡ clobbered p c b blank_label = it.1 ∙ ap (λ c. clobbered p c b blank_label) ec in (
       calm_too rest p c b x (sym eb) h calm,
-      el ∙ ap (λ t. over t l) (same ∙ sym (clobbered_too rest p c b x (sym eb) h calm blank))
+      el ∙ ap (λ t. over t l) (same ∙ sym (clobbered_too rest p c b x (sym eb) h calm blank_label))
           ∙ over_both (untaken_walk p c x) (taken_walk p c x) l core words,
     )
 
@@ -82,12 +82,12 @@ pub kept_there : (p : Program) (ss : List Summary) (i : ℕ) (s : Summary) → s
 kept_there p ss i s e all = subst (IsSummary p) (get_or_from_slice_get ss i s s e) (all i s (slice_get_within ss i s e))
 
 -- what a walk told
-pub walked_open : (p : Program) (c : BranchSite) (pc : ℕ) (r : CallString) (l told0 told : Label) (least : Option Violation) → list_of r ≡ [] → told0 ≡ blank →
+pub walked_open : (p : Program) (c : BranchSite) (pc : ℕ) (r : CallString) (l told0 told : Label) (least : Option Violation) → list_of r ≡ [] → told0 ≡ blank_label →
     least ≡ noted (flow_at p c (point_of pc r l)).reasons None → told ≡ clobbered p c (point_of pc r l) told0 → is_some least ≡ false → ComesTo p c (branch_from pc [] l) (Open told)
 walked_open p c pc r l told0 told least er eb el et e =
     let calm : (flow_at p c (branch_from pc (list_of r) l)).reasons ≡ [] = none_found (flow_at p c (point_of pc r l)).reasons (sym el ∙ none_some least e) in (
       subst (λ rs. (flow_at p c (branch_from pc rs l)).reasons ≡ []) er calm,
-      et ∙ ap (λ b. clobbered p c (branch_from pc (list_of r) l) b) eb ∙ ap (λ rs. clobbered p c (branch_from pc rs l) blank) er,
+      et ∙ ap (λ b. clobbered p c (branch_from pc (list_of r) l) b) eb ∙ ap (λ rs. clobbered p c (branch_from pc rs l) blank_label) er,
     )
 
 -- ---- the step of a program point

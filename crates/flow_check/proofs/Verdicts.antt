@@ -17,7 +17,7 @@ use Rattle.flow_check.specs.declared.labelling.Changed.{Changed}
 use Rattle.flow_check.specs.declared.call_string.CallString.{CallString}
 use Rattle.flow_check.specs.internal.Violations.{before, lesser, lesser_if, violation_of, noted, found, verdict_of}
 use Rattle.flow_check.specs.internal.Points.{point_at, points_of, fronts_of, list_of}
-use Rattle.flow_check.specs.internal.Labellings.{flagged, Reached}
+use Rattle.flow_check.specs.internal.Labellings.{changed_points, Reached}
 use Rattle.flow_check.proofs.Violations.{noted_append}
 use Rattle.flow_check.proofs.Iterating.{reached_rests, reached_many}
 use Rattle.flow_check.proofs.Taking.{points_long}
@@ -152,9 +152,9 @@ none_left : (front : List Changed) → length front ≡ 0 → fronts_of front �
 none_left [] e = refl
 none_left (x ∷ xs) e = absurd (omega (arith, e))
 
-pub rests_there : (step : Point → FlowStep) (start : Point) (ns cs : List Node) (front : List Changed) → Reached step start ns → fronts_of front ≡ flagged ns → points_of cs ≡ points_of ns → length front ≡ 0 → IsLabelling step start (points_of cs)
+pub rests_there : (step : Point → FlowStep) (start : Point) (ns cs : List Node) (front : List Changed) → Reached step start ns → fronts_of front ≡ changed_points ns → points_of cs ≡ points_of ns → length front ≡ 0 → IsLabelling step start (points_of cs)
 rests_there step start ns cs front r f same e = reached_rests step start ns cs (fronts_of front) r f same (none_left front e)
 
-pub decided_many : (step : Point → FlowStep) (start : Point) (begin : ℕ) (ns cs : List Node) (front : List Point) → Reached step start ns → front ≡ flagged ns → points_of cs ≡ points_of ns →
+pub decided_many : (step : Point → FlowStep) (start : Point) (begin : ℕ) (ns cs : List Node) (front : List Point) → Reached step start ns → front ≡ changed_points ns → points_of cs ≡ points_of ns →
     16384 < length (join_all (given_points step front) (points_of cs)) → Decided step start begin (No begin TooMany 0)
 decided_many step start begin ns cs front r f same many = let n = reached_many step start ns cs front r f same many in inr (n.0, n.1, refl)

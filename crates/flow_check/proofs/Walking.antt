@@ -27,14 +27,14 @@ use Rattle.flow_check.specs.internal.Violations.{noted}
 use Rattle.flow_check.specs.declared.program.Program.{Program}
 use Rattle.flow_check.specs.internal.Programs.{flow, base_flow, flow_at, arm_walk}
 use Rattle.flow_check.specs.internal.Points.{addrs_of, points_at, label_at}
-use Rattle.flow_check.specs.internal.Arms.{untold, told_insn, told, told_reasons, told_state, site_from, site_by, step_at}
+use Rattle.flow_check.specs.internal.Arms.{untold, told_insn, tally_told, told_reasons, told_state, site_from, site_by, step_at}
 use Rattle.flow_check.proofs.Clobbering.{core_append, words_append}
 use Rattle.flow_check.proofs.Violations.{noted_append}
 
 -- ---- one step
 
 -- what was told, at the join
-told_joined : (t : Tally) → told (Meets 0 [] []) t ≡ Ok t
+told_joined : (t : Tally) → tally_told (Meets 0 [] []) t ≡ Ok t
 told_joined t = ap (λ c. Ok (record t { cycles = c })) (let e : t.cycles + 0 ≡ t.cycles = omega arith in e)
 
 abbrev told_as : ℕ → List Val → List Val → Result Tally ℕ
@@ -42,8 +42,8 @@ told_as cycles core words = Ok (record { cycles = cycles; state = record { core 
 
 -- where an instruction goes on, what it takes and writes may be told first
 told_walked : (insn : Insn) (m : Module) (x : Point) (rest : Walk) (t : Tally) →
-    told (walked (Some insn) m x rest) t
-    ≡ told rest (told_insn (cycles_of insn) insn m (plan_val insn x.pair.addr x.label.core) t)
+    tally_told (walked (Some insn) m x rest) t
+    ≡ tally_told rest (told_insn (cycles_of insn) insn m (plan_val insn x.pair.addr x.label.core) t)
 told_walked insn m x (Stops addr) t = refl
 told_walked insn m x (Meets cycles regs words) t =
     let ws = written_words m (write_reaches (plan_val insn x.pair.addr x.label.core)) in
@@ -80,30 +80,30 @@ module _ (p : Program) (join : ℕ) where
 
   -- an instruction that leaves the text
   pub walk_leaves : (steps : ℕ) (x : Point) (t : Tally) (next : ℕ) → x.pair.addr ≢ join → next_at x ≡ Some next →
-      (base_flow p x).reasons ≡ [] → (base_flow p x).gives ≡ [] → told (arm_walk p join (suc steps) x) t ≡ Err next
+      (base_flow p x).reasons ≡ [] → (base_flow p x).gives ≡ [] → tally_told (arm_walk p join (suc steps) x) t ≡ Err next
   walk_leaves steps x t next ne on none out =
-      ap (λ w. told w t) (calm steps x next ne on none ∙ ap (λ gs. onward steps (Some next) [] gs x) out)
+      ap (λ w. tally_told w t) (calm steps x next ne on none ∙ ap (λ gs. onward steps (Some next) [] gs x) out)
 
   -- an instruction that goes on
   pub walk_goes : (steps : ℕ) (x y : Point) (ys : List Point) (t : Tally) (next : ℕ) (insn : Insn) → x.pair.addr ≢ join →
       next_at x ≡ Some next → met p.module.now.text p.text.now x.pair.addr ≡ Some insn →
       (base_flow p x).reasons ≡ [] → (base_flow p x).gives ≡ y ∷ ys →
-      told (arm_walk p join (suc steps) x) t
-      ≡ told (arm_walk p join steps y)
+      tally_told (arm_walk p join (suc steps) x) t
+      ≡ tally_told (arm_walk p join steps y)
       (told_insn (cycles_of insn) insn p.module.now (plan_val insn x.pair.addr x.label.core) t)
   walk_goes steps x y ys t next insn ne on it none go =
-      ap (λ w. told w t)
+      ap (λ w. tally_told w t)
       (calm steps x next ne on none ∙ ap (λ gs. onward steps (Some next) [] gs x) go
       ∙ ap (λ o. walked o p.module.now x (arm_walk p join steps y)) it)
       ∙ told_walked insn p.module.now x (arm_walk p join steps y) t
 
   -- at the join with steps left
   pub walk_there : (left : ℕ) (x : Point) (t : Tally) → 0 < left → x.pair.addr ≡ join →
-      told (arm_walk p join left x) t ≡ Ok t
+      tally_told (arm_walk p join left x) t ≡ Ok t
   walk_there zero x t h e = absurd (omega arith)
   walk_there (suc steps) x t h e =
       let f : (x.pair.addr == join) ≡ true = grind (arith, nat_tests) in
-      ap (λ w. told w t) (walk_at steps x true (next_at x) f refl) ∙ told_joined t
+      ap (λ w. tally_told w t) (walk_at steps x true (next_at x) f refl) ∙ told_joined t
 
 -- what is given, by the first address
 pub successors_first : (gs : List Point) (ts rs : List ℕ) (l : Label) (to : ℕ) → ts ≡ addrs_of gs → gs ≡ points_at (addrs_of gs) rs l → slice_get ts 0 ≡ Some to →
@@ -138,19 +138,19 @@ site_is S arms m text x = by (met m.text text x.pair.addr)
 
 -- the reasons of an arm, by its walk
 arm_told : (branch time number : ℕ) (w : Walk) (l : Label) →
-    told_reasons branch time number (told w (untold l)) ≡ arm_reasons branch time number w
+    told_reasons branch time number (tally_told w (untold l)) ≡ arm_reasons branch time number w
 arm_told branch time number (Meets cycles regs words) l =
     ap (λ n. because_if (not (n == time)) branch ArmTime number) (let e : 0 + cycles ≡ cycles = omega arith in e)
 arm_told branch time number (Stops addr) l = refl
 
 -- the state behind it
-state_told : (w : Walk) (l : Label) → told_state l (told w (untold l)) ≡ blot w l
+state_told : (w : Walk) (l : Label) → told_state l (tally_told w (untold l)) ≡ blot w l
 state_told (Meets cycles regs words) l = refl
 state_told (Stops addr) l = refl
 
 -- both arms, one after the other
-module _ (l0 l1 : Label) (w0 w1 : Walk) (r0 r1 : Result Tally ℕ) (first : r0 ≡ told w0 (untold l0))
-    (between : l1 ≡ told_state l0 r0) (second : r1 ≡ told w1 (untold l1))
+module _ (l0 l1 : Label) (w0 w1 : Walk) (r0 r1 : Result Tally ℕ) (first : r0 ≡ tally_told w0 (untold l0))
+    (between : l1 ≡ told_state l0 r0) (second : r1 ≡ tally_told w1 (untold l1))
   where
     -- the least of the reasons at a branch with a certificate
     pub site_least : (pc time : ℕ) (apart : List Found) (o0 o1 o2 o3 : Option Violation) → o1 ≡ noted apart o0 →

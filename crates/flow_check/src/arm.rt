@@ -1,7 +1,7 @@
 //! An arm of a secret branch, walked from its start to the join.
 
 ghost use Rattle.std.specs.Prelude.{◌≡◌, ◌≢◌, ◌≤◌, ◌<◌, ◌+◌, suc, ℕ, Err, IfOk, IfErr, slice_get};
-ghost use Rattle.flow_check.specs.internal.Arms.{untold, told_insn, told};
+ghost use Rattle.flow_check.specs.internal.Arms.{untold, told_insn, tally_told};
 ghost use Rattle.flow_check.specs.internal.Points.{point_at};
 ghost use Rattle.flow_check.specs.internal.Programs.{arm_walk};
 
@@ -53,10 +53,10 @@ fn walk_on(
     requires before { point.old.addr ≢ join }
     requires short { tally.old.cycles < 4294967000 }
     ensures on { IfOk result (λ _. (steps : ℕ) →
-        told (arm_walk program.now join (suc steps) (point_at point.old)) tally.old
-        ≡ told (arm_walk program.now join steps (point_at point.new)) tally.new) }
+        tally_told (arm_walk program.now join (suc steps) (point_at point.old)) tally.old
+        ≡ tally_told (arm_walk program.now join steps (point_at point.new)) tally.new) }
     ensures stops { IfErr result (λ addr. (steps : ℕ) →
-        told (arm_walk program.now join (suc steps) (point_at point.old)) tally.old ≡ Err addr) }
+        tally_told (arm_walk program.now join (suc steps) (point_at point.old)) tally.old ≡ Err addr) }
     ensures cycles { tally.new.cycles ≤ tally.old.cycles + 6 }
 {
     let module = program.module;
@@ -92,7 +92,7 @@ pub fn walk(
     state: &Label,
     relevance: &mut Relevance,
 ) -> Result<Tally, u16>
-    ensures { result ≡ told (arm_walk program.now join (suc join) (point_at from.now)) (untold state.now) }
+    ensures { result ≡ tally_told (arm_walk program.now join (suc join) (point_at from.now)) (untold state.now) }
 {
     relevance.begin();
     let mut point = *from;

@@ -4,7 +4,7 @@ ghost use Rattle.std.specs.Prelude.{◌≡◌, ◌≤◌, ◌<◌, ◌++◌, ◌
 ghost use Rattle.std.specs.Cmp.Lexicographic.{pointwise};
 ghost use Rattle.sm_words.specs.Words.{nth};
 ghost use Rattle.flow_rule.specs.Returns.{last_is, without_newest};
-ghost use Rattle.flow_check.specs.internal.Carries.{is_known};
+ghost use Rattle.flow_check.specs.internal.Carries.{is_number};
 ghost use Rattle.flow_check.specs.internal.Points.{list_of};
 
 use crate::transfer::first;
@@ -21,8 +21,8 @@ pub struct CallString {
 }
 
 /// Whether a value is this number.
-fn is_known(value: Val, addr: u16) -> bool
-    ensures { result ≡ is_known value addr }
+fn is_number(value: Val, addr: u16) -> bool
+    ensures { result ≡ is_number value addr }
 {
     match value {
         Val::Known(v) => v == addr,
@@ -73,7 +73,7 @@ impl CallString {
         if count == 0 {
             return false;
         }
-        let is = is_known(first(values), self.addrs[count - 1]);
+        let is = is_number(first(values), self.addrs[count - 1]);
         self.count = count - 1;
         is
     }

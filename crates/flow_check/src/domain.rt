@@ -10,7 +10,7 @@ ghost use Rattle.flow_check.specs.internal.Carries.{IsCarry};
 ghost use Rattle.flow_rule.specs.declared.Label.{Label};
 ghost use Rattle.flow_rule.specs.Rounds.{join_label, join_all};
 ghost use Rattle.flow_check.specs.internal.Weights.{weight_all, weight_label};
-ghost use Rattle.flow_check.specs.internal.Summaries.{blank, laid, overlay};
+ghost use Rattle.flow_check.specs.internal.Summaries.{blank_label, laid, overlay};
 ghost use Rattle.flow_rule.specs.Absorbs.{Absorbs};
 
 use flow_rule::{Label, Val};
@@ -256,8 +256,8 @@ pub fn overlay_label(state: &mut Label, told: &Label)
 }
 
 /// A state in which nothing is written.
-pub fn blank() -> Label
-    ensures { result ≡ blank }
+pub fn blank_label() -> Label
+    ensures { result ≡ blank_label }
 {
     Label {
         core: [Val::Public; 16],

@@ -6,7 +6,7 @@ ghost use Rattle.flow_rule.specs.Values.{set_each};
 ghost use Rattle.flow_rule.specs.Reasons.{exit_reasons, word_reasons};
 ghost use Rattle.flow_rule.specs.Going.{closes, exit_step};
 ghost use Rattle.flow_check.specs.internal.Violations.{noted};
-ghost use Rattle.flow_check.specs.internal.Terms.{terms_of};
+ghost use Rattle.flow_check.specs.internal.Terms.{terms_in};
 
 use crate::domain::{Core, Words, get, is_secret};
 use crate::memory::{known, word_number};
@@ -81,7 +81,7 @@ fn check_words(
 
 /// Closes the module with these registers.
 pub fn close(program: &Program<'_>, pc: u16, core: &Core, least: &mut Option<Violation>)
-    ensures { least.new ≡ noted (closes (terms_of program.now) pc core.now).reasons least.old }
+    ensures { least.new ≡ noted (closes (terms_in program.now) pc core.now).reasons least.old }
 {
     let bare = bare(core, program.answers);
     check_registers(pc, &bare, least);
@@ -91,7 +91,7 @@ pub fn close(program: &Program<'_>, pc: u16, core: &Core, least: &mut Option<Vio
 #[tactic(auto, using(crate::proofs::Violations::noted_append))]
 pub fn leave(program: &Program<'_>, pc: u16, state: &Label, least: &mut Option<Violation>)
     ensures { least.new ≡ noted
-        (exit_step (terms_of program.now) program.now.module.now pc state.now.core state.now.words).reasons least.old }
+        (exit_step (terms_in program.now) program.now.module.now pc state.now.core state.now.words).reasons least.old }
 {
     check_words(program.module, pc, &state.words, program.public, least);
     close(program, pc, &state.core, least);

@@ -6,8 +6,8 @@ ghost use Rattle.flow_rule.specs.declared.Label.{Label};
 ghost use Rattle.flow_rule.specs.Rounds.{join_in, join_all, Point as RulePoint, FlowStep};
 ghost use Rattle.flow_check.specs.internal.Points.{fronts_of, pair_of, list_of, label_at, points_at};
 ghost use Rattle.flow_check.specs.internal.Points.{point_at, points_of};
-ghost use Rattle.flow_check.specs.internal.Labellings.{mark_at, flagged, flagged_from, same_at, Covered, Kept, NoMark};
-ghost use Rattle.flow_check.specs.internal.Labellings.{Reached, StillKept, MarksOne, joined};
+ghost use Rattle.flow_check.specs.internal.Labellings.{mark_at, changed_points, changed_from, same_at, Covered, KeptPoints, NoMark};
+ghost use Rattle.flow_check.specs.internal.Labellings.{Reached, StillKept, MarksOne, joined_point};
 
 use crate::call_string::CallString;
 use crate::domain::join_label;
@@ -98,7 +98,7 @@ fn find(nodes: &[Node], point: &Point, hint: usize) -> usize
 fn raise(nodes: &mut Vec<Node>, at: usize, state: &Label) -> bool
     requires { at < length nodes.old.items }
     ensures points { (n : Node) → slice_get nodes.old.items at ≡ Some n → points_of nodes.new.items
-        ≡ slice_set (points_of nodes.old.items) at (joined (point_at n.point) state.now) }
+        ≡ slice_set (points_of nodes.old.items) at (joined_point (point_at n.point) state.now) }
     ensures same { result ≡ false → nodes.new.items ≡ nodes.old.items }
     ensures marks { MarksOne at nodes.old.items nodes.new.items }
     ensures kept { StillKept nodes.old.items nodes.new.items }
@@ -185,8 +185,8 @@ impl Labelling {
     fn take_mark(&mut self, i: usize, front: &mut Vec<Changed>) -> Result<(), AllocError>
         requires clear { (k : ℕ) → k < i → mark_at self.old k ≡ false }
         ensures clear { IfOk result (λ _. (k : ℕ) → k < i + 1 → mark_at self.new k ≡ false) }
-        ensures more { IfOk result (λ _. fronts_of front.old.items ++ flagged_from i self.old
-            ≡ fronts_of front.new.items ++ flagged_from (i + 1) self.new) }
+        ensures more { IfOk result (λ _. fronts_of front.old.items ++ changed_from i self.old
+            ≡ fronts_of front.new.items ++ changed_from (i + 1) self.new) }
         ensures points { points_of self.new ≡ points_of self.old }
     {
         if let Some(changed) = self.changed_at(i) {
@@ -202,8 +202,8 @@ impl Labelling {
         requires here { b < 128 }
         requires clear { (k : ℕ) → k < 128 * b → mark_at self.old k ≡ false }
         ensures clear { IfOk result (λ _. (k : ℕ) → k < 128 * (b + 1) → mark_at self.new k ≡ false) }
-        ensures more { IfOk result (λ _. fronts_of front.old.items ++ flagged_from (128 * b) self.old
-            ≡ fronts_of front.new.items ++ flagged_from (128 * (b + 1)) self.new) }
+        ensures more { IfOk result (λ _. fronts_of front.old.items ++ changed_from (128 * b) self.old
+            ≡ fronts_of front.new.items ++ changed_from (128 * (b + 1)) self.new) }
         ensures points { points_of self.new ≡ points_of self.old }
     {
         if !self.blocks[b] {
@@ -220,7 +220,7 @@ impl Labelling {
     pub fn take_changed(&mut self, front: &mut Vec<Changed>) -> Result<(), AllocError>
         requires empty { front.old.items ≡ [] }
         requires few { length self.old ≤ 16384 }
-        ensures front { IfOk result (λ _. fronts_of front.new.items ≡ flagged self.old) }
+        ensures front { IfOk result (λ _. fronts_of front.new.items ≡ changed_points self.old) }
         ensures points { points_of self.new ≡ points_of self.old }
         ensures clear { IfOk result (λ _. NoMark self.new) }
     {

@@ -7,7 +7,7 @@ ghost use Rattle.std.specs.Prelude.{None, true, slice_get, All, []};
 ghost use Rattle.flow_check.specs.declared.program.Program.{Program};
 ghost use Rattle.flow_check.specs.internal.Points.{addrs_of, point_at};
 ghost use Rattle.flow_check.specs.internal.Programs.{flow, flow_at};
-ghost use Rattle.flow_check.specs.internal.Summaries.{blank, branch_from, OpensTo, IsSummary, AreSummaries};
+ghost use Rattle.flow_check.specs.internal.Summaries.{blank_label, branch_from, OpensTo, IsSummary, AreSummaries};
 ghost use Rattle.flow_check.specs.declared.summaries.Outcome.{Outcome};
 ghost use Rattle.flow_rule.specs.Rounds.{given_by};
 ghost use Rattle.flow_check.specs.declared.violation.Violation.{Violation};
@@ -16,7 +16,7 @@ ghost use Rattle.flow_check.specs.internal.Steps.{SuccessorsAlike};
 
 use crate::branch::{BranchSite, is_same, site_of, walk_arms};
 use crate::call_string::CallString;
-use crate::domain::{blank, overlay_label, subsumes};
+use crate::domain::{blank_label, overlay_label, subsumes};
 use crate::point::Point;
 use crate::program::Program;
 use crate::relevant::{Relevance, like};
@@ -75,7 +75,7 @@ fn walked(
     ensures site { result.site ≡ site.now }
     ensures state { result.state ≡ state.now }
 {
-    let mut told = blank();
+    let mut told = blank_label();
     let mut least: Option<Violation> = None;
     let from = Point {
         addr: pc,

@@ -5,7 +5,7 @@ ghost use Rattle.flow_rule.specs.Rounds.{join_all, given_points};
 ghost use Rattle.flow_check.specs.internal.Points.{fronts_of, points_of};
 ghost use Rattle.flow_check.specs.internal.Programs.{flow};
 ghost use Rattle.flow_check.specs.internal.Summaries.{AreSummaries};
-ghost use Rattle.flow_check.specs.internal.Labellings.{Kept, NoMark, StillKept};
+ghost use Rattle.flow_check.specs.internal.Labellings.{KeptPoints, NoMark, StillKept};
 
 use crate::labelling::{Changed, Labelling};
 use crate::program::Program;
@@ -55,7 +55,7 @@ pub fn iterate(
     requires clear { NoMark all.old }
     ensures joined { IfOk result (λ many. many ≡ false → points_of all.new
         ≡ join_all (given_points (flow program.now) (fronts_of front.now)) (points_of all.old)) }
-    ensures kept { IfOk result (λ _. Kept (points_of all.old) all.new) }
+    ensures kept { IfOk result (λ _. KeptPoints (points_of all.old) all.new) }
     ensures few { IfOk result (λ many. many ≡ false → length all.new ≤ 16384) }
     ensures many { IfOk result (λ many. many ≡ true → 16384
         < length (join_all (given_points (flow program.now) (fronts_of front.now)) (points_of all.old))) }

@@ -33,10 +33,10 @@ told_insn time insn m xs t = record {
 }
 
 -- what was told, and a walk's part: its cycles and Secret where it writes; or the address where it stops
-abbrev pub told : Walk → Tally → Result Tally ℕ
-told (Meets cycles regs words) t =
+abbrev pub tally_told : Walk → Tally → Result Tally ℕ
+tally_told (Meets cycles regs words) t =
     Ok (record { cycles = t.cycles + cycles; state = blot (Meets cycles regs words) t.state })
-told (Stops addr) t = Err addr
+tally_told (Stops addr) t = Err addr
 
 -- the reasons of an arm, by what its walk told
 abbrev pub told_reasons : ℕ → ℕ → ℕ → Result Tally ℕ → List Found

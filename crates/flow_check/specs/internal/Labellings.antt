@@ -25,8 +25,8 @@ abbrev pub Distinct : List Point → Type 0
 Distinct xs = AllPairs (λ (x y : Point). Other x.pair y) xs
 
 -- a point to whose state another was joined
-abbrev pub joined : Point → Label → Point
-joined x l = record { pair = x.pair; label = join_label x.label l }
+abbrev pub joined_point : Point → Label → Point
+joined_point x l = record { pair = x.pair; label = join_label x.label l }
 
 abbrev pub is_marked : Option Node → Bool
 is_marked None = false
@@ -49,13 +49,13 @@ abbrev pub MarksOne : ℕ → List Node → List Node → Type 0
 MarksOne at old new = (i : ℕ) → mark_at new i ≡ true → (mark_at old i ≡ true) ⊎ (i ≡ at)
 
 -- those that changed
-abbrev pub flagged : List Node → List Point
-flagged [] = []
-flagged (n ∷ ns) = cond n.changed (point_at n.point ∷ flagged ns) (flagged ns)
+abbrev pub changed_points : List Node → List Point
+changed_points [] = []
+changed_points (n ∷ ns) = cond n.changed (point_at n.point ∷ changed_points ns) (changed_points ns)
 
 -- those that changed from here on
-abbrev pub flagged_from : ℕ → List Node → List Point
-flagged_from i ns = flagged (drop i ns)
+abbrev pub changed_from : ℕ → List Node → List Point
+changed_from i ns = changed_points (drop i ns)
 
 -- joining this point changes nothing
 abbrev pub Subsumed : Point → List Point → Type 0
@@ -72,16 +72,16 @@ Clean step [] ys = Unit {0}
 Clean step (n ∷ ns) ys = (n.changed ≡ false → AllSubsumed (given_by (step (point_at n.point))) ys) × Clean step ns ys
 
 -- the points that did not change are as before, the states of those that did have risen, and new ones changed
-abbrev pub Kept : List Point → List Node → Type 0
-Kept [] [] = Unit {0}
-Kept [] (n ∷ ns) = (n.changed ≡ true) × Kept [] ns
-Kept (x ∷ xs) [] = ⊥
-Kept (x ∷ xs) (n ∷ ns) =
-    (n.changed ≡ false → point_at n.point ≡ x) × (n.changed ≡ true → weight_label x.label < weight_label n.point.state) × Kept xs ns
+abbrev pub KeptPoints : List Point → List Node → Type 0
+KeptPoints [] [] = Unit {0}
+KeptPoints [] (n ∷ ns) = (n.changed ≡ true) × KeptPoints [] ns
+KeptPoints (x ∷ xs) [] = ⊥
+KeptPoints (x ∷ xs) (n ∷ ns) =
+    (n.changed ≡ false → point_at n.point ≡ x) × (n.changed ≡ true → weight_label x.label < weight_label n.point.state) × KeptPoints xs ns
 
 -- what was kept until one labelling is kept until the next
 abbrev pub StillKept : List Node → List Node → Type 0
-StillKept old new = (xs : List Point) → Kept xs old → Kept xs new
+StillKept old new = (xs : List Point) → KeptPoints xs old → KeptPoints xs new
 
 -- after some iterations
 pub record Reached (step : Point → FlowStep) (start : Point) (ns : List Node) : Type 0 where

@@ -5,15 +5,15 @@ use Rattle.flow_rule.specs.Verdict.{flow_step}
 use Rattle.flow_rule.specs.Arms.{Walk, walk, first_walk, second_walk, flow_under, step_arm}
 use Rattle.flow_check.specs.declared.program.Program.{Program}
 use Rattle.flow_check.specs.declared.branch.BranchSite.{BranchSite}
-use Rattle.flow_check.specs.internal.Terms.{terms_of}
+use Rattle.flow_check.specs.internal.Terms.{terms_in}
 
 -- the step of a point
 abbrev pub flow : Program → Point → FlowStep
-flow p = flow_under (terms_of p) p.module.now p.text.now p.arms.now
+flow p = flow_under (terms_in p) p.module.now p.text.now p.arms.now
 
 -- the same but for branches with a certificate
 abbrev pub base_flow : Program → Point → FlowStep
-base_flow p = flow_step (terms_of p) p.module.now p.text.now
+base_flow p = flow_step (terms_in p) p.module.now p.text.now
 
 -- the step of a branch by its certificate
 abbrev pub flow_at : Program → BranchSite → Point → FlowStep

@@ -17,8 +17,8 @@ abbrev pub clobbered : Program → BranchSite → Point → Label → Label
 clobbered p c x l = blot (taken_walk p c x) (blot (untaken_walk p c x) l)
 
 -- nothing is written
-abbrev pub blank : Label
-blank = record { core = replicate 16 Public; words = replicate 256 Public }
+abbrev pub blank_label : Label
+blank_label = record { core = replicate 16 Public; words = replicate 256 Public }
 
 -- through a Public of the first value the second is seen
 abbrev pub laid : Val → Val → Val
@@ -40,7 +40,7 @@ OpensTo p c x l = ((flow_at p c x).reasons ≡ []) × (l ≡ clobbered p c x x.l
 
 -- what the arms of a branch come to
 abbrev pub ComesTo : Program → BranchSite → Point → Answer → Type 0
-ComesTo p c x (Open told) = ((flow_at p c x).reasons ≡ []) × (told ≡ clobbered p c x blank)
+ComesTo p c x (Open told) = ((flow_at p c x).reasons ≡ []) × (told ≡ clobbered p c x blank_label)
 ComesTo p c x Shut = (flow_at p c x).reasons ≢ []
 
 -- what is kept of a branch's arms is so under its own state

@@ -2,5 +2,5 @@
 use Rattle.flow_rule.specs.Terms.{Terms}
 use Rattle.flow_check.specs.declared.program.Program.{Program}
 
-abbrev pub terms_of : Program → Terms
-terms_of p = record { answers = p.answers.now; public = p.public.now }
+abbrev pub terms_in : Program → Terms
+terms_in p = record { answers = p.answers.now; public = p.public.now }

@@ -1,5 +1,5 @@
 use Rattle.std.proofs.Common.{◌≡◌, ◌∙◌, ap, sym, arith, suc, ◌-◌}
-use Rattle.flow_check.specs.internal.Arms.{told}
+use Rattle.flow_check.specs.internal.Arms.{tally_told}
 use Rattle.flow_check.specs.internal.Points.{point_at}
 use Rattle.flow_check.specs.internal.Programs.{arm_walk}
 use Rattle.flow_check.proofs.Walking.{walk_there}
@@ -15,7 +15,7 @@ pub returns-in-Err : goal.returns-in-Err
 returns-in-Err c =
     let one : c.loop-left.left ≡ suc (c.loop-left.left - 1) = omega arith in
     sym (c.loop-left.invariant.rest
-    ∙ ap (λ n. told (arm_walk c.args.program.now c.args.join n (point_at c.loop-left.point)) c.loop-left.tally) one
+    ∙ ap (λ n. tally_told (arm_walk c.args.program.now c.args.join n (point_at c.loop-left.point)) c.loop-left.tally) one
     ∙ c.in-Err.ensures.stops (c.loop-left.left - 1))
 
 pub loop-left-preserved : goal.loop-left-preserved
@@ -23,7 +23,7 @@ loop-left-preserved c = record {
   rest =
       let one : c.loop-left.left ≡ suc (c.loop-left.left - 1) = omega arith in
       c.loop-left.invariant.rest
-      ∙ ap (λ n. told (arm_walk c.args.program.now c.args.join n (point_at c.loop-left.point)) c.loop-left.tally) one
+      ∙ ap (λ n. tally_told (arm_walk c.args.program.now c.args.join n (point_at c.loop-left.point)) c.loop-left.tally) one
       ∙ c.in_default.ensures.on (c.loop-left.left - 1);
   short = omega (arith, c.loop-left.invariant.short, c.walk_on.ensures.cycles);
 }

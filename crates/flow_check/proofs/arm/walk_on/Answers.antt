@@ -2,7 +2,7 @@ use Rattle.std.proofs.Common.{◌≡◌, ◌∙◌, ap, sym, ℕ, [], slice_set}
 use Rattle.flow_rule.specs.declared.Val.TheVariants.{Known}
 use Rattle.flow_rule.specs.Does.{plan_val}
 use Rattle.flow_rule.specs.Rounds.{Point, FlowStep}
-use Rattle.flow_check.specs.internal.Arms.{told_insn, told}
+use Rattle.flow_check.specs.internal.Arms.{told_insn, tally_told}
 use Rattle.flow_check.specs.internal.Points.{list_of, point_at}
 use Rattle.flow_check.specs.internal.Programs.{base_flow, arm_walk}
 use Rattle.flow_check.proofs.Successors.{none_some, none_found}
@@ -39,6 +39,6 @@ returns-in-Some-first_of-clause-on c = λ steps.
     let reached : c.as_slice-reached.result.now ≡ plan_val insn x.pair.addr core = c.as_slice-reached.ensures.value ∙ c.reaches-reaches.ensures in
     walk_goes p c.args.join steps x y first.0 t c.in-Some.next insn c.requires.before c.in-Some.ensures.goes_on
     c.in-Some.ensures.met none first.1
-    ∙ ap (told (arm_walk p c.args.join steps y))
+    ∙ ap (tally_told (arm_walk p c.args.join steps y))
     (ap (λ n. told_insn n insn m (plan_val insn x.pair.addr core) t) (sym c.cycles.ensures.exact)
     ∙ ap (λ xs. told_insn c.cycles.result insn m xs t) (sym reached) ∙ sym c.tell.ensures)

@@ -5,7 +5,7 @@ use Rattle.flow_rule.specs.declared.Reason.TheVariants.{Arm as ArmInsn}
 use Rattle.flow_rule.specs.Reasons.{because_if}
 use Rattle.flow_rule.specs.Rounds.{Found, Point}
 use Rattle.flow_check.specs.internal.Violations.{noted}
-use Rattle.flow_check.specs.internal.Arms.{untold, told}
+use Rattle.flow_check.specs.internal.Arms.{untold, tally_told}
 use Rattle.flow_check.specs.internal.Points.{point_at}
 use Rattle.flow_check.specs.internal.Programs.{arm_walk, untaken_walk, taken_walk}
 use Rattle.flow_check.proofs.Walking.{site_least, site_told}
@@ -23,10 +23,10 @@ returns c =
     let w1 = taken_walk p b x in
     let r0 = c.walk-first.result in
     let r1 = c.walk-second.result in
-    let first : r0 ≡ told w0 (untold l0) =
-    c.walk-first.ensures ∙ ap (λ y. told (arm_walk p b.arm.join (suc b.arm.join) y) (untold l0)) c.first_arm-start.ensures in
-    let second : r1 ≡ told w1 (untold l1) =
-    c.walk-second.ensures ∙ ap (λ y. told (arm_walk p b.arm.join (suc b.arm.join) y) (untold l1)) c.second_arm-start.ensures in
+    let first : r0 ≡ tally_told w0 (untold l0) =
+    c.walk-first.ensures ∙ ap (λ y. tally_told (arm_walk p b.arm.join (suc b.arm.join) y) (untold l0)) c.first_arm-start.ensures in
+    let second : r1 ≡ tally_told w1 (untold l1) =
+    c.walk-second.ensures ∙ ap (λ y. tally_told (arm_walk p b.arm.join (suc b.arm.join) y) (untold l1)) c.second_arm-start.ensures in
     let apart : Bool → List Found = λ h. because_if (not h) x.pair.addr ArmInsn b.arm.join in
     record {
       least =

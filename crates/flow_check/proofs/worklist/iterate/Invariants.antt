@@ -1,7 +1,7 @@
 use Rattle.std.proofs.Common.{◌≡◌, drop}
 use Rattle.flow_rule.specs.Rounds.{join_all, given_points}
 use Rattle.flow_check.specs.internal.Points.{points_of, fronts_of}
-use Rattle.flow_check.specs.internal.Labellings.{Kept}
+use Rattle.flow_check.specs.internal.Labellings.{KeptPoints}
 use Rattle.flow_check.specs.internal.Programs.{flow}
 use Rattle.flow_check.specs.internal.Summaries.{AreSummaries}
 use Rattle.flow_check.proofs.worklist.iterate.Given as goal
@@ -9,5 +9,5 @@ use Rattle.flow_check.proofs.worklist.iterate.Given as goal
 abbrev pub invariant-loop-changed : goal.invariant-loop-changed
 invariant-loop-changed l =
     (join_all (given_points (flow l.program) (fronts_of l.front)) (points_of l.fn.all) ≡ join_all (given_points (flow l.program) (fronts_of (drop l.changed-index l.front))) (points_of l.all))
-    × Kept (points_of l.fn.all) l.all
+    × KeptPoints (points_of l.fn.all) l.all
     × AreSummaries l.program l.summaries.list.items
