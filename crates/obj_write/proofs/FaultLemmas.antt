@@ -14,7 +14,7 @@ use Rattle.asm_text.specs.declared.unit.SectionKind.TheVariants.{Code, Data, Bss
 use Rattle.asm_text.specs.Parts.{SectionValue, UnitValue, IsUnit, IsSectionValue, kept_size}
 use Rattle.obj_write.specs.Strings.{string_table, name_at}
 use Rattle.obj_write.specs.Sections.{FileSection, no_section, content_at}
-use Rattle.obj_write.specs.Object.{no_part, section_type, flags_of, strings_head, relocated_in, object_section_names, file_sections, shstrtab_index, object_of}
+use Rattle.obj_write.specs.Object.{no_part, section_type, section_flags, strings_head, relocated_in, object_section_names, file_sections, shstrtab_index, object_of}
 use Rattle.obj_write.proofs.ReadLemmas.{Stands, header}
 use Rattle.obj_write.proofs.FileLemmas.{nothing_below, no_head}
 use Rattle.obj_write.proofs.ObjectLemmas.{length_names}
@@ -36,7 +36,7 @@ unfolding section_fault
 zero_section unit is = rw (zero_header unit is) refl
 
 part_sound : (K : SectionKind) (len at size bytes : ℕ) (f : ElfFault) → bytes ≡ kept_size K size → at + bytes ≤ len
-    → refuse_if ((not (eqb (section_type K) 0 || eqb (section_type K) 8) && ltb len (at + size)) || (is_loaded (section_type K) (flags_of K) && not (is_alignment 2))) f ≡ None
+    → refuse_if ((not (eqb (section_type K) 0 || eqb (section_type K) 8) && ltb len (at + size)) || (is_loaded (section_type K) (section_flags K) && not (is_alignment 2))) f ≡ None
 part_sound Code len at size bytes f e le = let p : ltb len (at + size) ≡ false = le-ltb len (at + size) (omega arith) in rw p refl
 part_sound Data len at size bytes f e le = let p : ltb len (at + size) ≡ false = le-ltb len (at + size) (omega arith) in rw p refl
 part_sound Bss len at size bytes f e le = refl
@@ -90,7 +90,7 @@ unfolding compressed_fault
 compressed_by file i h e flat =
     ap (λ (x : Header). refuse_if (is_loaded_header x && eqb (x.flags / 2048 % 2) 1) (fault.Compressed i)) e ∙ ap (λ b. refuse_if b (fault.Compressed i)) flat
 
-part_flags : (K : SectionKind) → (is_loaded (section_type K) (flags_of K) && eqb (flags_of K / 2048 % 2) 1) ≡ false
+part_flags : (K : SectionKind) → (is_loaded (section_type K) (section_flags K) && eqb (section_flags K / 2048 % 2) 1) ≡ false
 part_flags Code = refl
 part_flags _ = refl
 

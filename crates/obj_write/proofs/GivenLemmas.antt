@@ -26,7 +26,7 @@ use Rattle.obj_write.specs.Bytes.{long_bytes}
 use Rattle.obj_write.specs.Strings.{string_table}
 use Rattle.obj_write.specs.Symbols.{no_symbol, info_of, home_index, symbol_names}
 use Rattle.obj_write.specs.Relocations.{relocation_entry, relocations_in}
-use Rattle.obj_write.specs.Object.{no_part, section_type, flags_of, relocated_in, object_of}
+use Rattle.obj_write.specs.Object.{no_part, section_type, section_flags, relocated_in, object_of}
 use Rattle.obj_write.specs.Reader.{IsPartRead, IsSymbolOf, binding_read, home_read, no_relocation, relocation_read, table_read, IsObjectOf}
 use Rattle.obj_write.proofs.PassLemmas.{each_below_same}
 use Rattle.obj_write.proofs.ReadLemmas.{Stands, stands_left, stands_right, word_read, word_low, header}
@@ -121,7 +121,7 @@ relocation_given unit is j lt e inside =
     relocation_same _ _ _ _ _ _ (length unit.sections + 4 + j) e (target + 1) (r.offset % 2 ^ 32) (r.symbol + 1) 5 _ (pos 0)
     (omega arith) refl refl (offset_read file at r stands) (omega (arith, info)) (omega (arith, info)) (ap (cast_signed w32) (addend_read file at r stands))
 
-part_loaded : (K : SectionKind) → is_loaded (section_type K) (flags_of K) ≡ true
+part_loaded : (K : SectionKind) → is_loaded (section_type K) (section_flags K) ≡ true
 part_loaded Code = refl
 part_loaded _ = refl
 

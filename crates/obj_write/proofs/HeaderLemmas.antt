@@ -14,7 +14,7 @@ use Rattle.obj_write.specs.Strings.{string_table, name_at}
 use Rattle.obj_write.specs.Sections.{FileSection, no_section, padded_contents, content_at, head_of}
 use Rattle.obj_write.specs.Symbols.{symbol_names, symbol_table_bytes, first_global}
 use Rattle.obj_write.specs.Relocations.{relocation_table}
-use Rattle.obj_write.specs.Object.{no_part, section_type, flags_of, part_head, symbols_head, strings_head, relocations_head, symtab_index, relocated_in, object_section_names, part_section, symtab_section, strtab_section, shstrtab_section, relocation_section, file_sections, shstrtab_index, object_of}
+use Rattle.obj_write.specs.Object.{no_part, section_type, section_flags, part_head, symbols_head, strings_head, relocations_head, symtab_index, relocated_in, object_section_names, part_section, symtab_section, strtab_section, shstrtab_section, relocation_section, file_sections, shstrtab_index, object_of}
 use Rattle.obj_write.proofs.ReadLemmas.{Stands, stands_left, stands_within, stands_each, IsSmall, header}
 use Rattle.obj_write.proofs.FileLemmas.{table_place, stands_whole, IsLaid, laid, no_head, first_header, next_header}
 use Rattle.obj_write.proofs.ObjectLemmas.{relocated_few, relocated_within}
@@ -49,7 +49,7 @@ kind_small : (k : SectionKind) → section_type k < 9
 kind_small Code = omega arith
 kind_small _ = omega arith
 
-flags_small : (k : SectionKind) → flags_of k < 7
+flags_small : (k : SectionKind) → section_flags k < 7
 flags_small Code = omega arith
 flags_small _ = omega arith
 

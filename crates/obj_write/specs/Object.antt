@@ -49,14 +49,14 @@ section_type Code = progbits
 section_type Data = progbits
 section_type Bss = nobits
 
-abbrev pub flags_of : SectionKind → ℕ
-flags_of Code = alloc_flag + execute_flag
-flags_of Data = write_flag + alloc_flag
-flags_of Bss = write_flag + alloc_flag
+abbrev pub section_flags : SectionKind → ℕ
+section_flags Code = alloc_flag + execute_flag
+section_flags Data = write_flag + alloc_flag
+section_flags Bss = write_flag + alloc_flag
 
 -- the header of a section of the unit
 abbrev pub part_head : SectionValue → ℕ → Head
-part_head s name = record { name = name; kind = section_type s.kind; flags = flags_of s.kind; offset = 0; size = s.size; link = 0; info = 0; align = section_align; entry_size = 0 }
+part_head s name = record { name = name; kind = section_type s.kind; flags = section_flags s.kind; offset = 0; size = s.size; link = 0; info = 0; align = section_align; entry_size = 0 }
 
 -- the unit's section of this index
 unfoldable pub part_section : UnitValue → ℕ → FileSection

@@ -13,13 +13,13 @@ use Rattle.elf_objects.specs.Object.{ObjectValue}
 use Rattle.asm_text.specs.declared.unit.AsmRelocation.{AsmRelocation}
 use Rattle.asm_text.specs.Parts.{SectionValue, SymbolValue, UnitValue}
 use Rattle.obj_write.specs.Relocations.{word_field, relocations_in}
-use Rattle.obj_write.specs.Object.{section_align, section_type, flags_of, relocated_in}
+use Rattle.obj_write.specs.Object.{section_align, section_type, section_flags, relocated_in}
 
 -- the section is the unit's, with its name and its bytes
 pub record IsPartRead (file : List ℕ) (s : SectionValue) (head : SectionHead) : Type 0 where
   pub name : slice_range file head.name.start head.name.end ≡ s.name
   pub kind : head.kind ≡ section_type s.kind
-  pub flags : head.flags ≡ flags_of s.kind
+  pub flags : head.flags ≡ section_flags s.kind
   pub size : head.size ≡ s.size
   pub align : head.align ≡ section_align
   pub bytes : slice_range file head.bytes.start head.bytes.end ≡ s.bytes

@@ -10,7 +10,7 @@ ghost use Rattle.obj_write.specs.Sections.{FileSection};
 ghost use Rattle.obj_write.specs.internal.Sections.{AreSections};
 ghost use Rattle.obj_write.specs.Symbols.{symbol_names, symbol_table_bytes};
 ghost use Rattle.obj_write.specs.Relocations.{relocation_table};
-ghost use Rattle.obj_write.specs.Object.{section_type, flags_of, part_names, table_names, part_head, symbols_head, strings_head, relocations_head, relocation_name, relocated_in, object_section_names, part_section, table_sections, relocation_section, file_sections, file_header, file_bytes, object_of};
+ghost use Rattle.obj_write.specs.Object.{section_type, section_flags, part_names, table_names, part_head, symbols_head, strings_head, relocations_head, relocation_name, relocated_in, object_section_names, part_section, table_sections, relocation_section, file_sections, file_header, file_bytes, object_of};
 ghost use Rattle.obj_write.specs.Reader.{IsObjectOf};
 
 use crate::bytes::{put_half, put_word};
@@ -59,8 +59,8 @@ fn section_type(kind: SectionKind) -> usize
     }
 }
 
-fn flags_of(kind: SectionKind) -> usize
-    ensures { result ≡ flags_of kind }
+fn section_flags(kind: SectionKind) -> usize
+    ensures { result ≡ section_flags kind }
 {
     match kind {
         SectionKind::Code => ALLOC_EXECUTE,
@@ -126,7 +126,7 @@ fn part_head(section: &AsmSection, name: usize) -> Head
     Head {
         name,
         kind: section_type(section.kind),
-        flags: flags_of(section.kind),
+        flags: section_flags(section.kind),
         offset: 0,
         size: section.size as usize,
         link: 0,

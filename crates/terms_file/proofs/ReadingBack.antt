@@ -19,7 +19,7 @@ use Rattle.terms_file.specs.declared.Term.{Term}
 use Rattle.terms_file.specs.declared.Term.TheVariants.{Answer, Public}
 use Rattle.terms_file.specs.declared.TermsFault.{TermsFault}
 use Rattle.terms_file.specs.declared.TermsFault.TheVariants.{TooMany, NotRising}
-use Rattle.terms_file.specs.Terms.{answer_of, public_of, term_of, place_of, term_rows, terms_of, term_text, terms_text}
+use Rattle.terms_file.specs.Terms.{answer_of, public_of, term_of, term_place, term_rows, terms_of, term_text, terms_text}
 use Rattle.terms_file.specs.Laws.{AreReadBack}
 
 -- ---- the terms that a line may write
@@ -106,7 +106,7 @@ text_clean (Public a) i =
 
 abbrev Rise : ℕ → List Term → Type 0
 Rise low [] = Unit {0}
-Rise low (t ∷ ts) = (low ≤ place_of t) × IsTerm t × Rise (place_of t + 1) ts
+Rise low (t ∷ ts) = (low ≤ term_place t) × IsTerm t × Rise (term_place t + 1) ts
 
 -- what a text from line n on may have
 abbrev Read : ℕ → ℕ → List Term → Type 0
@@ -127,26 +127,26 @@ not_last n l = grind (arith, nat_tests)
 -- a line, where what the lines behind it give is so
 module _ (rest : ℕ → Result (List Term) TermsFault) (n low : ℕ) (ts : List Term)
     (behind : (next : ℕ) (more : List Term) → n + 1 ≤ 271 → rest next ≡ Ok more → Read (n + 1) next more) where
-  with_rest : (r : Result (List Term) TermsFault) (t : Term) → n + 1 ≤ 271 → low ≤ place_of t → IsTerm t
-      → rest (place_of t + 1) ≡ r → after_these (t ∷ []) r ≡ Ok ts → Read n low ts
+  with_rest : (r : Result (List Term) TermsFault) (t : Term) → n + 1 ≤ 271 → low ≤ term_place t → IsTerm t
+      → rest (term_place t + 1) ≡ r → after_these (t ∷ []) r ≡ Ok ts → Read n low ts
   with_rest (Err fault) t m l i g e = absurd cc
   with_rest (Ok more) t m l i g e =
       let same : t ∷ more ≡ ts = cc in
-      let next = behind (place_of t + 1) more m g in
+      let next = behind (term_place t + 1) more m g in
       let few = next.1 in
       let fits : n + length (t ∷ more) ≤ 271 = omega (arith, few) in
       subst (Read n low) same ((l, i, next.0), fits)
 
-  in_place : (b : Bool) (t : Term) → nat_lt (place_of t) low ≡ b → n + 1 ≤ 271 → IsTerm t
-      → cond b (Err (NotRising n)) (after_these (t ∷ []) (rest (place_of t + 1))) ≡ Ok ts → Read n low ts
+  in_place : (b : Bool) (t : Term) → nat_lt (term_place t) low ≡ b → n + 1 ≤ 271 → IsTerm t
+      → cond b (Err (NotRising n)) (after_these (t ∷ []) (rest (term_place t + 1))) ≡ Ok ts → Read n low ts
   in_place true t f m i e = absurd cc
-  in_place false t f m i e = with_rest (rest (place_of t + 1)) t m (at_least (place_of t) low f) i refl e
+  in_place false t f m i e = with_rest (rest (term_place t + 1)) t m (at_least (term_place t) low f) i refl e
 
   row_is : (line : List ℕ) (o : Option Term) (last : Bool) → n ≤ 271 → (n == 271) ≡ last → term_of line ≡ o
       → cond last (Err TooMany) (from_row term_rows n low o rest) ≡ Ok ts → Read n low ts
   row_is line o true l g f e = absurd cc
   row_is line None false l g f e = absurd cc
-  row_is line (Some t) false l g f e = in_place (nat_lt (place_of t) low) t refl (one_more n l g) (line_is line t f) e
+  row_is line (Some t) false l g f e = in_place (nat_lt (term_place t) low) t refl (one_more n l g) (line_is line t f) e
 
 are_read : (lines : List (List ℕ)) (n low : ℕ) (ts : List Term) → n ≤ 271 → rows_from term_rows n low lines ≡ Ok ts
     → Read n low ts
@@ -161,14 +161,14 @@ rise_from : (low high : ℕ) (ts : List Term) → low ≤ high → Rise high ts 
 rise_from low high [] l r = tt
 rise_from low high (t ∷ ts) l r = ((let h = r.0 in omega (arith, l, h)), r.1, r.2)
 
-rise_by : (b : Bool) (low : ℕ) (t : Term) (kept : List Term) → low ≤ place_of t → IsTerm t
-    → Rise (place_of t + 1) kept → Rise low (cond b (t ∷ kept) kept)
+rise_by : (b : Bool) (low : ℕ) (t : Term) (kept : List Term) → low ≤ term_place t → IsTerm t
+    → Rise (term_place t + 1) kept → Rise low (cond b (t ∷ kept) kept)
 rise_by true low t kept l i r = (l, i, r)
-rise_by false low t kept l i r = rise_from low (place_of t + 1) kept (omega (arith, l)) r
+rise_by false low t kept l i r = rise_from low (term_place t + 1) kept (omega (arith, l)) r
 
 some_rise : (test : Term → Bool) (low : ℕ) (ts : List Term) → Rise low ts → Rise low (filter test ts)
 some_rise test low [] r = tt
-some_rise test low (t ∷ ts) r = rise_by (test t) low t (filter test ts) r.0 r.1 (some_rise test (place_of t + 1) ts r.2)
+some_rise test low (t ∷ ts) r = rise_by (test t) low t (filter test ts) r.0 r.1 (some_rise test (term_place t + 1) ts r.2)
 
 few_by : (b : Bool) (t : Term) (kept ts : List Term) → length kept ≤ length ts
     → length (cond b (t ∷ kept) kept) ≤ length (t ∷ ts)
@@ -189,7 +189,7 @@ as_lines (t ∷ ts) = append_assoc (term_text t) (codes "\n") (terms_text ts)
 all_clean : (low : ℕ) (ts : List Term) → Rise low ts → All HasNoFeed (map term_text ts)
 all_clean low [] r = All-from_recursion HasNoFeed [] tt
 all_clean low (t ∷ ts) r = All-cons HasNoFeed (term_text t) (map term_text ts) (text_clean t r.1)
-    (all_clean (place_of t + 1) ts r.2)
+    (all_clean (term_place t + 1) ts r.2)
 
 no_more : (lines : List (List ℕ)) → lines ++ [] ≡ lines
 no_more [] = refl
@@ -208,8 +208,8 @@ rows_are n low [] few r = refl
 rows_are n low (t ∷ ts) few r =
     let last = not_last n (omega (arith, few)) in
     let is = line_read t r.1 in
-    let rises = not_below (place_of t) low r.0 in
-    rw (last, is, rises) (ap (after_these (t ∷ [])) (rows_are (n + 1) (place_of t + 1) ts (omega (arith, few)) r.2))
+    let rises = not_below (term_place t) low r.0 in
+    rw (last, is, rises) (ap (after_these (t ∷ [])) (rows_are (n + 1) (term_place t + 1) ts (omega (arith, few)) r.2))
 
 pub are_read_back : AreReadBack
 unfolding terms_of

@@ -10,7 +10,7 @@ use Rattle.terms_file.specs.declared.Term.{Term}
 use Rattle.terms_file.specs.declared.Term.TheVariants.{Answer, Public}
 use Rattle.terms_file.specs.declared.TermsFault.{TermsFault}
 use Rattle.terms_file.specs.declared.TermsFault.TheVariants.{TooMany, NotRising}
-use Rattle.terms_file.specs.Terms.{answer_of, public_of, term_of, place_of, term_rows, terms_of, answer_in}
+use Rattle.terms_file.specs.Terms.{answer_of, public_of, term_of, term_place, term_rows, terms_of, answer_in}
 use Rattle.terms_file.specs.Laws.{AnswersMayBe}
 
 -- a term's register may be an answer
@@ -52,18 +52,18 @@ term_may_be line t e = by _ _ e
 
 -- a line, where what the lines behind it give is so
 module _ (rest : ℕ → Result (List Term) TermsFault) (behind : (next : ℕ) (more : List Term) → rest next ≡ Ok more → AllMayBe more) (n low : ℕ) (ts : List Term) where
-  with_rest : (r : Result (List Term) TermsFault) (t : Term) → rest (place_of t + 1) ≡ r → MayBe t → after_these (t ∷ []) r ≡ Ok ts → AllMayBe ts
+  with_rest : (r : Result (List Term) TermsFault) (t : Term) → rest (term_place t + 1) ≡ r → MayBe t → after_these (t ∷ []) r ≡ Ok ts → AllMayBe ts
   with_rest (Err fault) t g h e = absurd cc
-  with_rest (Ok more) t g h e = let same : t ∷ more ≡ ts = cc in subst AllMayBe same (more_may_be t more h (behind (place_of t + 1) more g))
+  with_rest (Ok more) t g h e = let same : t ∷ more ≡ ts = cc in subst AllMayBe same (more_may_be t more h (behind (term_place t + 1) more g))
 
-  in_place : (b : Bool) (t : Term) → MayBe t → cond b (Err (NotRising n)) (after_these (t ∷ []) (rest (place_of t + 1))) ≡ Ok ts → AllMayBe ts
+  in_place : (b : Bool) (t : Term) → MayBe t → cond b (Err (NotRising n)) (after_these (t ∷ []) (rest (term_place t + 1))) ≡ Ok ts → AllMayBe ts
   in_place true t h e = absurd cc
-  in_place false t h e = with_rest (rest (place_of t + 1)) t refl h e
+  in_place false t h e = with_rest (rest (term_place t + 1)) t refl h e
 
   row_may_be : (line : List ℕ) (o : Option Term) (last : Bool) → term_of line ≡ o → cond last (Err TooMany) (from_row term_rows n low o rest) ≡ Ok ts → AllMayBe ts
   row_may_be line o true f e = absurd cc
   row_may_be line None false f e = absurd cc
-  row_may_be line (Some t) false f e = in_place (nat_lt (place_of t) low) t (term_may_be line t f) e
+  row_may_be line (Some t) false f e = in_place (nat_lt (term_place t) low) t (term_may_be line t f) e
 
 each_may_be : (lines : List (List ℕ)) (n low : ℕ) (ts : List Term) → rows_from term_rows n low lines ≡ Ok ts → AllMayBe ts
 each_may_be [] n low ts e = let same : [] ≡ ts = cc in subst AllMayBe same refl

@@ -28,16 +28,16 @@ term_of line =
     else (if starts_with (λ a b. a == b) line (codes "public ") then public_of (read_hex_word (drop 7 line)) else None)
 
 -- registers come before addresses
-abbrev pub place_of : Term → ℕ
-place_of (Answer n) = n
-place_of (Public a) = 16 + a
+abbrev pub term_place : Term → ℕ
+term_place (Answer n) = n
+term_place (Public a) = 16 + a
 
 -- each term comes behind that of the line before; there are 14 registers, and words of a public kind are the first 256 of the data
 abbrev pub term_rows : Rows Term TermsFault
 term_rows = record {
   row_of = term_of;
-  place = place_of;
-  behind = λ term. place_of term + 1;
+  place = term_place;
+  behind = λ term. term_place term + 1;
   most = 270;
   too_many = TooMany;
   no_row = λ n. Line n;

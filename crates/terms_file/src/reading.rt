@@ -34,7 +34,7 @@ pub fn read_terms(alloc: Global, bytes: &[u8]) -> Result<Terms, TermsFault>
         let Some(term) = term_of(line) else {
             return Err(TermsFault::Line { n });
         };
-        let place = place_of(term);
+        let place = term_place(term);
         if place < low {
             return Err(TermsFault::NotRising { n });
         }
@@ -83,8 +83,8 @@ fn is_answer(register: u8) -> bool
 }
 
 // Where a term stands among all that there may be.
-fn place_of(term: Term) -> u32
-    ensures place { result ≡ spec.place_of term }
+fn term_place(term: Term) -> u32
+    ensures place { result ≡ spec.term_place term }
     ensures low { result < 0x20000 }
 {
     match term {
