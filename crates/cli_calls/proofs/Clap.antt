@@ -18,7 +18,7 @@ use Rattle.clap.specs.declared.error.kind.ErrorKind.{ErrorKind}
 use Rattle.clap.specs.declared.error.kind.ErrorKind.TheVariants.{UnknownArgument, MissingRequiredArgument, WrongNumberOfValues, TooFewValues, TooManyValues}
 use Rattle.clap.specs.declared.builder.value_parser.ValueParser.TheVariants as vp
 use Rattle.cli_calls.specs.internal.App.{id, several, app}
-use Rattle.cli_calls.specs.Words.{is_end, is_option, values, values_in}
+use Rattle.cli_calls.specs.Words.{is_end, is_option, values, values_within}
 
 -- the argument as it is built
 abbrev pub ready : ℕ → ℕ → Rule
@@ -347,12 +347,12 @@ placed least most h false s v (x ∷ vs) le =
 
 -- what the parse finds, where it may succeed
 abbrev pub Given : Text → ℕ → ℕ → List Text → List Text → Type 0
-Given name least most words vs = (values_in least most (drop 1 words) ≡ Some vs) × (all_of id (matches_of (app name least most) words) ≡ Some vs)
+Given name least most words vs = (values_within least most (drop 1 words) ≡ Some vs) × (all_of id (matches_of (app name least most) words) ≡ Some vs)
 
 -- where no kind of error may come there are values, and where one may come there are none
 abbrev pub Decides : Text → ℕ → ℕ → List Text → Kinds → Type 0
 Decides name least most words [] = (vs : List Text) × Given name least most words vs
-Decides name least most words (k ∷ ks) = values_in least most (drop 1 words) ≡ None
+Decides name least most words (k ∷ ks) = values_within least most (drop 1 words) ≡ None
 
 decides : (name : Text) (least most : ℕ) → Wanted least most → (w : Text) (words : List Text) → Texts words
     → Decides name least most (w ∷ words) (fault_of (app name least most) (w ∷ words))
@@ -379,7 +379,7 @@ decides name least most h w words u = by (values words) refl (walk-end name leas
     by (Some (v ∷ vs)) e end = in_range (nat_le least (length (v ∷ vs))) (nat_le (length (v ∷ vs)) most) refl refl
       where
         -- a wrong number of values is refused, by the word that has no place or in the end
-        wrong : (k : ErrorKind) → range_kinds least most (length (v ∷ vs)) ≡ k ∷ [] → values_in least most words ≡ None → (o : Kinds) → over many [] (v ∷ vs) ≡ o
+        wrong : (k : ErrorKind) → range_kinds least most (length (v ∷ vs)) ≡ k ∷ [] → values_within least most words ≡ None → (o : Kinds) → over many [] (v ∷ vs) ≡ o
             → Decides name least most (w ∷ words) (fault_of (app name least most) (w ∷ words))
         wrong k bad none [] p =
             let all : fault_of (app name least most) (w ∷ words) ≡ k ∷ [] = whole ∙ rw (e, p, end p) (bad-tail name least most v vs k bad) in
@@ -421,7 +421,7 @@ decided_ok name least most words (k ∷ ks) d e = absurd (cc)
 
 -- and one that gave an error that is not for memory
 pub decided_err : (name : Text) (least most : ℕ) (words : List Text) (kinds : Kinds) (k : ErrorKind) → Decides name least most words kinds → IsAmong k kinds
-    → values_in least most (drop 1 words) ≡ None
+    → values_within least most (drop 1 words) ≡ None
 decided_err name least most words [] k d a = absurd a
 decided_err name least most words (x ∷ ks) k d a = d
 

@@ -13,7 +13,7 @@ use Rattle.cli_files.specs.Files.{IsFirstFault}
 use Rattle.cli_files.specs.Refusal.{status_of, refusal_line}
 use Rattle.cli_calls.specs.Calls.{Call, Serves, Refuses, IsCalledFor, IsCause, Completes, IsOrOutside, WasRun, WasTold, TellsAs, Ended, was_run, was_told}
 use Rattle.cli_calls.specs.Command.{Command, Answer, Answers, Outcome, refuses, Comes, IsAnswer}
-use Rattle.cli_calls.specs.Runs.{EndsAs, IsCommandCause, IsSound}
+use Rattle.cli_calls.specs.Runs.{EndsAs, IsCommandCause, RunsImage}
 use Rattle.cli_calls.proofs.Outcomes.{one_answer, one_outcome, no_first_fault, no_fault_of_answer, no_refusal_of_answer}
 
 -- the words are one command
@@ -160,7 +160,7 @@ module _ (call : Call) (took cut told part : List ℕ → Type 0) (same_err same
     -- the whole answer, and what is run is an image, where memory is there and neither the files nor a sink failed
     pub whole : (ended : Status) → Ended call ended took cut told part same_err same_out → (outcome : Outcome) (answer : Answer) → Comes (Some map) other outcome → Answers outcome answer
         → ended ≢ status.NoMemory → (Rose call.before call.after → ⊥) → (cut answer.text → ⊥) → ((text : List ℕ) → part text → ⊥)
-        → (took answer.text × same_err × (ended ≡ answer.status)) × IsSound outcome
+        → (took answer.text × same_err × (ended ≡ answer.status)) × RunsImage outcome
     whole ended (was_run r e) outcome answer comes a some no_read no_cut no_part =
         (by ended (ends_here ended r answer (record { outcome = outcome; comes = comes; is = a })), sound)
       where
@@ -171,8 +171,8 @@ module _ (call : Call) (took cut told part : List ℕ → Type 0) (same_err same
         by status.WriteFault b = absurd (no_cut b)
         by _ b = absurd b
 
-        sound : IsSound outcome
-        sound = subst IsSound (one_outcome map other r.run.served.outcome outcome (here (λ o k. Comes o k r.run.served.outcome) r.command r.asked r.run.served.comes) comes) r.run.sound
+        sound : RunsImage outcome
+        sound = subst RunsImage (one_outcome map other r.run.served.outcome outcome (here (λ o k. Comes o k r.run.served.outcome) r.command r.asked r.run.served.comes) comes) r.run.sound
     whole ended (was_told r o) outcome answer comes a some no_read no_cut no_part = absurd (by r.tells)
       where
         of : (q : Refusal) → IsCause call q r.name → ended ≡ status_of q → ⊥

@@ -12,7 +12,7 @@ use Rattle.cli_files.specs.Files.{Held, a_layout, an_image, HoldAll}
 use Rattle.cli_calls.specs.Command.{Command, Outcome, done, nothing}
 use Rattle.cli_calls.specs.ImageRuns.{entries_in, image_run_command, read_image_run}
 use Rattle.cli_calls.specs.Linking.{linked_by, objects_command, objects_in, read_objects}
-use Rattle.cli_calls.specs.Values.{cycles_of, file_named}
+use Rattle.cli_calls.specs.Values.{read_cycles, file_named}
 use Rattle.cli_calls.specs.Words.{Text}
 
 -- what files that serve the command hold comes to something
@@ -69,5 +69,5 @@ of_objects text (layout ∷ objects) = if_some (objects_command text layout obje
 of_objects text [] = if_none
 
 pub of_image_run : (told : Image → List Entry → ℕ → Outcome) → IsSomething told → (vs : List Text) → IfSound (read_image_run told vs)
-of_image_run told some (name ∷ schedule ∷ cycles ∷ []) = if_map (image_run_command told name (file_named schedule)) (cycles_of cycles) (sound_image_run told some name (file_named schedule))
+of_image_run told some (name ∷ schedule ∷ cycles ∷ []) = if_map (image_run_command told name (file_named schedule)) (read_cycles cycles) (sound_image_run told some name (file_named schedule))
 of_image_run told some _ = if_none

@@ -4,7 +4,7 @@ use Rattle.image_text.specs.Image.{Image}
 use Rattle.schedule_file.specs.declared.Entry.{Entry}
 use Rattle.cli_files.specs.Files.{Held, an_image, a_schedule, image_file, need, schedule_needs}
 use Rattle.cli_calls.specs.Command.{Command, Outcome, nothing}
-use Rattle.cli_calls.specs.Values.{cycles_of, file_named}
+use Rattle.cli_calls.specs.Values.{read_cycles, file_named}
 use Rattle.cli_calls.specs.Words.{Text}
 
 -- the entries of a schedule's file; with no file there are none
@@ -20,5 +20,5 @@ abbrev pub image_run_command : (Image → List Entry → ℕ → Outcome) → Te
 image_run_command told name schedule cycles = record { needs = need name image_file ∷ schedule_needs schedule; outcome = image_run_outcome told cycles }
 
 abbrev pub read_image_run : (Image → List Entry → ℕ → Outcome) → List Text → Option Command
-read_image_run told (name ∷ schedule ∷ cycles ∷ []) = option_map (image_run_command told name (file_named schedule)) (cycles_of cycles)
+read_image_run told (name ∷ schedule ∷ cycles ∷ []) = option_map (image_run_command told name (file_named schedule)) (read_cycles cycles)
 read_image_run told _ = None

@@ -35,23 +35,24 @@ abbrev pub names : Verdict → Term → Bool
 names Yes term = false
 names (No addr why value) term = named_by why value term
 
-abbrev pub is_named : List Verdict → Term → Bool
-is_named verdicts term = list_any (λ v. names v term) verdicts
+abbrev pub have_named : List Verdict → Term → Bool
+have_named verdicts term = list_any (λ v. names v term) verdicts
 
 -- an answer stands once a verdict has named it, a public word until one does
 abbrev pub stands : List Verdict → Term → Bool
-stands verdicts (Answer n) = is_named verdicts (Answer n)
-stands verdicts (Public a) = not (is_named verdicts (Public a))
+stands verdicts (Answer n) = have_named verdicts (Answer n)
+stands verdicts (Public a) = not (have_named verdicts (Public a))
 
 -- the granted terms that stand after these verdicts
-abbrev pub standing : List Term → List Verdict → List Term
-standing granted verdicts = filter (stands verdicts) granted
+abbrev pub standing_terms : List Term → List Verdict → List Term
+standing_terms granted verdicts = filter (stands verdicts) granted
 
 module _ (owner : Module) (text : List ℕ) (arms : List Arm) (granted : List Term) where
   -- the text is judged under the terms that stand, and again while the verdict names a granted term, so often at most
   abbrev pub IsOffered : ℕ → List Verdict → List Term → Verdict → Type 0
-  IsOffered zero verdicts terms v = (terms ≡ standing granted verdicts) × VerdictUnder (told_by terms) owner text arms v
+  IsOffered zero verdicts terms v =
+      (terms ≡ standing_terms granted verdicts) × VerdictUnder (told_by terms) owner text arms v
   IsOffered (suc n) verdicts terms v =
-      (now : Verdict) × VerdictUnder (told_by (standing granted verdicts)) owner text arms now
+      (now : Verdict) × VerdictUnder (told_by (standing_terms granted verdicts)) owner text arms now
       × MatchBool (list_any (names now) granted) (IsOffered n (verdicts ++ (now ∷ [])) terms v)
-      ((terms ≡ standing granted verdicts) × (v ≡ now))
+      ((terms ≡ standing_terms granted verdicts) × (v ≡ now))

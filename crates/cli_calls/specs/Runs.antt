@@ -24,13 +24,13 @@ IsCommandCause files before after command (refusal.Link fault) name = Comes file
 IsCommandCause files before after command refused name = IsNeedCause files before after command.needs refused name
 
 -- what is run is an image
-abbrev pub IsSound : Outcome → Type 0
-IsSound (runs value entries cycles) = IsImage value
-IsSound _ = Unit {0}
+abbrev pub RunsImage : Outcome → Type 0
+RunsImage (runs value entries cycles) = IsImage value
+RunsImage _ = Unit {0}
 
 -- the files serve the command, and its answer ended so
 pub record IsRun (files : Option FileMap) (command : Command) (ended : Status) (took cut : List ℕ → Type 0) : Type 0 where
   pub answer : Answer
   pub served : IsAnswer files command answer
-  pub sound : IsSound served.outcome
+  pub sound : RunsImage served.outcome
   pub ends : EndsAs ended answer took cut

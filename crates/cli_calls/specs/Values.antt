@@ -10,5 +10,5 @@ abbrev pub file_named : Text → Option Text
 file_named word = if bytes_eq word (codes "-") then None else Some word
 
 -- a number of cycles
-abbrev pub cycles_of : Text → Option ℕ
-cycles_of word = read_decimal MAX_CYCLES word
+abbrev pub read_cycles : Text → Option ℕ
+read_cycles word = read_decimal MAX_CYCLES word

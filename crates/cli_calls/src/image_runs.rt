@@ -8,12 +8,12 @@ ghost use Rattle.written_machine.specs.View.{boot};
 ghost use Rattle.sm_io.specs.Sink.{Took, CutOff};
 ghost use Rattle.cli_calls.specs.Command.{Answer, Answers, Outcome};
 ghost use Rattle.cli_calls.specs.ImageRuns.{image_run_command, read_image_run};
-ghost use Rattle.cli_calls.specs.Runs.{EndsAs, IsSound};
+ghost use Rattle.cli_calls.specs.Runs.{EndsAs, RunsImage};
 ghost use Rattle.cli_calls.specs.declared.values.TheConstants.{MAX_CYCLES};
 
 use crate::answering::Answering;
 use crate::reading::Reading;
-use crate::values::{cycles_of, file_named};
+use crate::values::{file_named, read_cycles};
 use board::Board;
 use cli_files::{NO_MEMORY, Refused, Status, load, load_schedule};
 use image_text::Image;
@@ -40,7 +40,7 @@ pub trait RunText: Drop {
         Answers (told value entries cycles) (told_from (boot value entries) cycles) };
 
     ghost sound: { (value : ImageValue) (entries : List Entry) (cycles : ℕ) → IsImage value →
-        IsSound (told value entries cycles) };
+        RunsImage (told value entries cycles) };
 }
 
 /// A command that tells it. Its arguments, with no schedule where its word is `-`.
@@ -59,7 +59,7 @@ impl<'a, T: RunText> Reading<'a> for ImageRun<'a, T> {
         if values.len() != 3 {
             return Ok(None);
         }
-        match cycles_of(values[2]) {
+        match read_cycles(values[2]) {
             Some(cycles) => Ok(Some(ImageRun {
                 image: values[0],
                 schedule: file_named(values[1]),

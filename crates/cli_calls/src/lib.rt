@@ -17,6 +17,6 @@ pub use ids::id_of;
 pub use image_runs::{ImageRun, RunText};
 pub use objects::{ObjectsCommand, ObjectsText};
 pub use reading::{Reading, read};
-pub use values::{cycles_of, file_named};
+pub use values::{file_named, read_cycles};
 pub use verdicts::{put_verdict, text_of};
 pub use words::values_of;

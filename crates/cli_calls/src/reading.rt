@@ -1,7 +1,7 @@
 // Commands, read from the words of a call.
 ghost use Rattle.std.specs.Prelude.{◌≡◌, ◌<◌, ◌≤◌, ℕ, List, Option, IfOk, IfSome, length, map, drop, option_map, option_and_then};
 ghost use Rattle.cli_calls.specs.Command.{Command};
-ghost use Rattle.cli_calls.specs.Words.{Text, texts, values_in};
+ghost use Rattle.cli_calls.specs.Words.{Text, texts, values_within};
 
 use crate::answering::Answering;
 use crate::words::values_of;
@@ -34,7 +34,7 @@ pub fn read<'a, C: Reading<'a>>(
     requires order { least ≤ most }
     requires number { (n : ℕ) → n ≤ most → C.few n }
     ensures command { IfOk result (λ o. option_map C.asked o
-        ≡ option_and_then C.asks (values_in least most (drop 1 (texts words.entry.now)))) }
+        ≡ option_and_then C.asks (values_within least most (drop 1 (texts words.entry.now)))) }
     ensures bounds { IfOk result (λ o. IfSome o C.bounds) }
 {
     match values_of(alloc, name, words, least, most)? {

@@ -1,7 +1,7 @@
 // Values of a command's words.
 ghost use Rattle.std.specs.Prelude.{◌≡◌, ◌≤◌, IfSome};
 ghost use Rattle.std.specs.Option.{option_copied};
-ghost use Rattle.cli_calls.specs.Values.{cycles_of, file_named};
+ghost use Rattle.cli_calls.specs.Values.{read_cycles, file_named};
 
 use texts::read_decimal;
 
@@ -19,8 +19,8 @@ pub fn file_named(word: &str) -> Option<&str>
 }
 
 /// A number of cycles.
-pub fn cycles_of(word: &str) -> Option<u64>
-    ensures exact { result ≡ cycles_of word.now }
+pub fn read_cycles(word: &str) -> Option<u64>
+    ensures exact { result ≡ read_cycles word.now }
     ensures limit { IfSome result (λ cycles. cycles ≤ MAX_CYCLES) }
 {
     read_decimal(word.as_bytes(), MAX_CYCLES)

@@ -2,7 +2,7 @@
 ghost use Rattle.std.specs.Prelude.{◌≡◌, ◌<◌, ◌≤◌, IfOk, map, drop, option_map, string_bytes};
 ghost use Rattle.clap.specs.Simple.{app_of};
 ghost use Rattle.cli_calls.specs.internal.App.{app};
-ghost use Rattle.cli_calls.specs.Words.{values_in};
+ghost use Rattle.cli_calls.specs.Words.{values_within};
 
 use clap::error::ErrorKind;
 use clap::{Arg, ArgAction, Command};
@@ -39,7 +39,7 @@ pub fn values_of<'a>(
     requires some { 0 < least }
     requires order { least ≤ most }
     ensures { IfOk result (λ o. option_map (λ v. map (λ w. w.now) v.items) o
-        ≡ values_in least most (drop 1 (map string_bytes words.entry.now))) }
+        ≡ values_within least most (drop 1 (map string_bytes words.entry.now))) }
 {
     let command = simple_command(alloc, name, least, most)?;
     match command.try_get_matches_from(words) {

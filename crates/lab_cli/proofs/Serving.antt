@@ -13,7 +13,7 @@ use Rattle.cli_files.specs.Files.{need, image_file, an_image, Holds}
 use Rattle.cli_calls.specs.Calls.{Completes}
 use Rattle.cli_calls.specs.Command.{Command, Outcome, gives, offers, nothing, Comes}
 use Rattle.cli_calls.specs.Values.{file_named}
-use Rattle.cli_calls.specs.Words.{Text, values_in}
+use Rattle.cli_calls.specs.Words.{Text, values_within}
 use Rattle.cli_calls.proofs.Sound.{Sound, of_image_run, of_objects, IfSound, IsSomething, if_none, if_some, if_map, if_then, if_else}
 use Rattle.lab_cli.specs.CommandLine.{command_by, command_of}
 use Rattle.lab_cli.specs.MapCommand.{map_of}
@@ -59,11 +59,11 @@ of_sweep _ = if_none
 
 of_name : (name : Text) (words : List Text) → IfSound (command_by name words)
 of_name name words =
-    if_else (bytes_eq name (codes "map")) _ _ (if_then map_of (values_in 2 65 words) (of_objects map_text)) (
-    if_else (bytes_eq name (codes "released")) _ _ (if_then released_of (values_in 4 4 words) of_released) (
-    if_else (bytes_eq name (codes "sweep")) _ _ (if_then sweep_of (values_in 6 6 words) of_sweep) (
-    if_else (bytes_eq name (codes "steps")) _ _ (if_then steps_of (values_in 3 3 words) (of_image_run steps_outcome some_steps)) (
-    if_else (bytes_eq name (codes "terms")) _ _ (if_then offer_of (values_in 4 4 words) of_offer) (
+    if_else (bytes_eq name (codes "map")) _ _ (if_then map_of (values_within 2 65 words) (of_objects map_text)) (
+    if_else (bytes_eq name (codes "released")) _ _ (if_then released_of (values_within 4 4 words) of_released) (
+    if_else (bytes_eq name (codes "sweep")) _ _ (if_then sweep_of (values_within 6 6 words) of_sweep) (
+    if_else (bytes_eq name (codes "steps")) _ _ (if_then steps_of (values_within 3 3 words) (of_image_run steps_outcome some_steps)) (
+    if_else (bytes_eq name (codes "terms")) _ _ (if_then offer_of (values_within 4 4 words) of_offer) (
     if_none)))))
 
 -- what comes of the files of a command line is something

@@ -8,7 +8,7 @@ use Rattle.flow_rule.specs.declared.Verdict.{Verdict}
 use Rattle.flow_rule.specs.Arms.{VerdictUnder}
 use Rattle.mod_layout.specs.declared.Module.{Module}
 use Rattle.terms_file.specs.declared.Term.{Term}
-use Rattle.cli_calls.specs.Offers.{told_by, names, standing, IsOffered}
+use Rattle.cli_calls.specs.Offers.{told_by, names, standing_terms, IsOffered}
 
 -- one more term, if it passes the test
 one_kept : (b : Bool) (x : Term) (rest : List Term) → cond b (x ∷ []) [] ++ rest ≡ cond b (x ∷ rest) rest
@@ -40,7 +40,7 @@ module _ (owner : Module) (text : List ℕ) (arms : List Arm) (granted : List Te
 
   -- where no verdict is left, or the verdict names no granted term
   pub ends_here : (left : ℕ) (verdicts : List Verdict) (terms : List Term) (v : Verdict)
-      → terms ≡ standing granted verdicts → Under terms v
+      → terms ≡ standing_terms granted verdicts → Under terms v
       → (nat_lt 0 left && list_any (names v) granted) ≡ false → Offers left verdicts terms v
   ends_here zero verdicts terms v e u none = (e, u)
   ends_here (suc n) verdicts terms v e u none =
@@ -48,12 +48,12 @@ module _ (owner : Module) (text : List ℕ) (arms : List Arm) (granted : List Te
         v,
         subst (λ ts. Under ts v) e u,
         subst (λ b. MatchBool b (Offers n (verdicts ++ (v ∷ [])) terms v)
-            ((terms ≡ standing granted verdicts) × (v ≡ v))) (sym last) (e, refl),
+            ((terms ≡ standing_terms granted verdicts) × (v ≡ v))) (sym last) (e, refl),
       )
 
   -- where one is left, and names one: what comes of the verdicts with this one comes of those before it
   pub goes_past : (left : ℕ) (verdicts : List Verdict) (now : Verdict) (here terms : List Term) (v : Verdict)
-      → here ≡ standing granted verdicts → Under here now
+      → here ≡ standing_terms granted verdicts → Under here now
       → (nat_lt 0 left && list_any (names now) granted) ≡ true → Offers (left - 1) (verdicts ++ (now ∷ [])) terms v
       → Offers left verdicts terms v
   goes_past zero verdicts now here terms v e u some h =
@@ -66,5 +66,5 @@ module _ (owner : Module) (text : List ℕ) (arms : List Arm) (granted : List Te
         now,
         subst (λ ts. Under ts now) e u,
         subst (λ b. MatchBool b (Offers n (verdicts ++ (now ∷ [])) terms v)
-            ((terms ≡ standing granted verdicts) × (v ≡ now))) (sym on) rest,
+            ((terms ≡ standing_terms granted verdicts) × (v ≡ now))) (sym on) rest,
       )

@@ -9,7 +9,7 @@ use Rattle.cli_files.specs.declared.answers.Status.{Status}
 use Rattle.cli_files.specs.declared.answers.Status.TheVariants as status
 use Rattle.cli_files.specs.Files.{Held, an_image, image_file, need}
 use Rattle.cli_calls.specs.Command.{Answer, Command, Outcome, gives, nothing}
-use Rattle.cli_calls.specs.Values.{cycles_of}
+use Rattle.cli_calls.specs.Values.{read_cycles}
 use Rattle.cli_calls.specs.Words.{Text}
 use Rattle.lab_cli.specs.declared.sweep.TheConstants.{MAX_LINE}
 
@@ -33,7 +33,7 @@ pulses_with _ _ _ _ = None
 
 -- a line, two cycles as a schedule has them, and a number of cycles
 abbrev pub pulses_of : Text → Text → Text → Text → Option Pulses
-pulses_of line from to cycles = pulses_with (read_decimal MAX_LINE line) (read_decimal MAX_CYCLE from) (read_decimal MAX_CYCLE to) (cycles_of cycles)
+pulses_of line from to cycles = pulses_with (read_decimal MAX_LINE line) (read_decimal MAX_CYCLE from) (read_decimal MAX_CYCLE to) (read_cycles cycles)
 
 abbrev pub sweep_of : List Text → Option Command
 sweep_of (first ∷ second ∷ line ∷ from ∷ to ∷ cycles ∷ []) = option_map (sweep_command first second) (pulses_of line from to cycles)

@@ -9,7 +9,7 @@ ghost use Rattle.cli_files.specs.Causes.{IsNeedCause};
 ghost use Rattle.cli_files.specs.Files.{Holds, need, terms_file, the_terms};
 ghost use Rattle.cli_files.specs.NameText.{name_text};
 ghost use Rattle.cli_calls.specs.Offers.{told_by};
-ghost use Rattle.cli_calls.specs.Words.{texts, values_in};
+ghost use Rattle.cli_calls.specs.Words.{texts, values_within};
 ghost use Rattle.lab_cli.specs.ReleasedCommand.{released_of};
 ghost use Rattle.lab_cli.specs.UnderTerms.{arms_needs, told_needs};
 ghost use Rattle.lab_cli.specs.internal.ReleasedCommand.{AreArmsOf, released_asked};
@@ -37,7 +37,7 @@ pub fn read<'a>(
     words: &'a [String],
 ) -> Result<Option<ReleasedCommand<'a>>, AllocError>
     ensures { IfOk result (λ o. option_map released_asked o ≡
-        option_and_then released_of (values_in 4 4 (drop 1 (texts words.entry.now)))) }
+        option_and_then released_of (values_within 4 4 (drop 1 (texts words.entry.now)))) }
 {
     match values_of(alloc, "released", words, 4, 4)? {
         Some(values) => Ok(command_in(values.as_slice())),

@@ -5,7 +5,7 @@ ghost use Rattle.cli_calls.specs.Runs.{EndsAs};
 ghost use Rattle.lab_cli.specs.SweepCommand.{pulses_of, sweep_command, sweep_of, sweep_status};
 ghost use Rattle.lab_cli.specs.internal.SweepCommand.{IsWithin};
 
-use cli_calls::{Answering, Reading, cycles_of};
+use cli_calls::{Answering, Reading, read_cycles};
 use cli_files::{NO_MEMORY, Refused, Status, load};
 use image_text::Image;
 use pulse_sweep::{Pulses, Swept};
@@ -54,7 +54,7 @@ fn pulses_of(line: &str, from: &str, to: &str, cycles: &str) -> Option<Pulses>
         line: read_decimal(line.as_bytes(), MAX_LINE)? as u8,
         from: read_decimal(from.as_bytes(), MAX_CYCLE)?,
         to: read_decimal(to.as_bytes(), MAX_CYCLE)?,
-        cycles: cycles_of(cycles)?,
+        cycles: read_cycles(cycles)?,
     })
 }
 

@@ -7,7 +7,7 @@ ghost use Rattle.sm_io.specs.Sink.{Took, CutOff};
 ghost use Rattle.cli_calls.specs.Command.{IsOffer, offer_answer};
 ghost use Rattle.cli_calls.specs.Offers as spec;
 ghost use Rattle.cli_calls.specs.Runs.{EndsAs};
-ghost use Rattle.cli_calls.specs.Words.{texts, values_in};
+ghost use Rattle.cli_calls.specs.Words.{texts, values_within};
 ghost use Rattle.lab_cli.specs.TermsCommand.{offer_of};
 ghost use Rattle.lab_cli.specs.internal.TermsCommand.{offer_asked};
 
@@ -33,7 +33,7 @@ pub struct TermsCommand<'a> {
 /// The arguments that the words after the first are.
 pub fn read<'a>(alloc: Global, words: &'a [String]) -> Result<Option<TermsCommand<'a>>, AllocError>
     ensures { IfOk result (λ o. option_map offer_asked o ≡
-        option_and_then offer_of (values_in 4 4 (drop 1 (texts words.entry.now)))) }
+        option_and_then offer_of (values_within 4 4 (drop 1 (texts words.entry.now)))) }
 {
     match values_of(alloc, "terms", words, 4, 4)? {
         Some(values) => Ok(command_in(values.as_slice())),
@@ -145,7 +145,7 @@ fn settle(
     let mut verdicts = Vec::new(alloc);
     let mut left = granted.len();
     loop {
-        let terms = standing(alloc, granted, verdicts.as_slice())?;
+        let terms = standing_terms(alloc, granted, verdicts.as_slice())?;
         let verdict = verdict_under(alloc, chosen, &terms, arms)?;
         if !goes_on(left, verdict, granted) {
             return Ok(Settled { terms, verdict });
@@ -171,8 +171,8 @@ fn is_granted(verdict: Verdict, granted: &[Term]) -> bool
 }
 
 // The granted terms that stand after these verdicts.
-fn standing(alloc: Global, granted: &[Term], verdicts: &[Verdict]) -> Result<Terms, AllocError>
-    ensures { IfOk result (λ terms. terms.list.items ≡ spec.standing granted.now verdicts.now) }
+fn standing_terms(alloc: Global, granted: &[Term], verdicts: &[Verdict]) -> Result<Terms, AllocError>
+    ensures { IfOk result (λ terms. terms.list.items ≡ spec.standing_terms granted.now verdicts.now) }
 {
     let mut list = Vec::new(alloc);
     for term in granted {
@@ -204,7 +204,7 @@ fn stands(term: Term, verdicts: &[Verdict]) -> bool
 
 // Whether one of these verdicts names a term.
 fn is_named(term: Term, verdicts: &[Verdict]) -> bool
-    ensures { result ≡ spec.is_named verdicts.now term }
+    ensures { result ≡ spec.have_named verdicts.now term }
 {
     verdicts.iter().any(|verdict| names(*verdict, term))
 }

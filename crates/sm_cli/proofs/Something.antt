@@ -11,9 +11,9 @@ use Rattle.linker.specs.Refusals.{link_fault_of}
 use Rattle.arm_balance.specs.declared.Arm.{Arm}
 use Rattle.vendor_tool.specs.declared.Challenge.{Challenge}
 use Rattle.cli_files.specs.Files.{an_image, a_schedule, the_challenges, the_replies, certificates, a_layout, a_script, a_unit}
-use Rattle.cli_calls.specs.Words.{Text, values_in}
+use Rattle.cli_calls.specs.Words.{Text, values_within}
 use Rattle.cli_calls.specs.Ids.{id_of}
-use Rattle.cli_calls.specs.Values.{cycles_of, file_named}
+use Rattle.cli_calls.specs.Values.{read_cycles, file_named}
 use Rattle.cli_calls.specs.Command.{Command, Outcome, runs, nothing, Comes}
 use Rattle.sm_cli.specs.CommandLine.{command_by, command_of}
 use Rattle.sm_cli.specs.AsmCommand.{asm_command, read_asm}
@@ -172,7 +172,7 @@ of_balance _ = if_none
 
 of_run : (vs : List Text) → IfSound (read_run vs)
 of_run (layout ∷ schedule ∷ cycles ∷ objects) =
-    if_map (λ n. run_command layout (file_named schedule) n objects) (cycles_of cycles) (λ n. sound_run layout (file_named schedule) n objects)
+    if_map (λ n. run_command layout (file_named schedule) n objects) (read_cycles cycles) (λ n. sound_run layout (file_named schedule) n objects)
 of_run _ = if_none
 
 with_lone : (name : Text) (id limit : Option ℕ) (pairs : Option (List Pair)) → IfSound (lone_with name id limit pairs)
@@ -180,7 +180,7 @@ with_lone name (Some id) (Some limit) (Some pairs) = if_some (lone_command name 
 with_lone name _ _ _ = if_none
 
 of_lone : (vs : List Text) → IfSound (read_lone vs)
-of_lone (name ∷ id ∷ limit ∷ pairs) = with_lone name (id_of id) (cycles_of limit) (pairs_in pairs)
+of_lone (name ∷ id ∷ limit ∷ pairs) = with_lone name (id_of id) (read_cycles limit) (pairs_in pairs)
 of_lone _ = if_none
 
 of_monitor : (vs : List Text) → IfSound (read_monitor vs)
@@ -197,19 +197,19 @@ of_make _ = if_none
 
 of_name : (name : Text) (words : List Text) → IfSound (command_by name words)
 of_name name words =
-    if_else (bytes_eq name (codes "image")) _ _ (if_then read_image (values_in 3 3 words) (of_image_run runs some_run)) (
-    if_else (bytes_eq name (codes "key")) _ _ (if_then read_key (values_in 2 2 words) of_key) (
-    if_else (bytes_eq name (codes "dis")) _ _ (if_then read_dis (values_in 3 3 words) of_dis) (
-    if_else (bytes_eq name (codes "challenge")) _ _ (if_then read_challenge (values_in 1 1 words) of_challenge) (
-    if_else (bytes_eq name (codes "vendor")) _ _ (if_then read_vendor (values_in 5 5 words) of_vendor) (
-    if_else (bytes_eq name (codes "check")) _ _ (if_then read_check (values_in 2 2 words) of_check) (
-    if_else (bytes_eq name (codes "balance")) _ _ (if_then read_balance (values_in 3 3 words) of_balance) (
-    if_else (bytes_eq name (codes "link")) _ _ (if_then read_link (values_in 2 65 words) (of_objects linked_image_text)) (
-    if_else (bytes_eq name (codes "run")) _ _ (if_then read_run (values_in 4 67 words) of_run) (
-    if_else (bytes_eq name (codes "lone")) _ _ (if_then read_lone (values_in 3 17 words) of_lone) (
-    if_else (bytes_eq name (codes "monitor")) _ _ (if_then read_monitor (values_in 3 3 words) of_monitor) (
-    if_else (bytes_eq name (codes "asm")) _ _ (if_then read_asm (values_in 1 1 words) of_asm) (
-    if_else (bytes_eq name (codes "make")) _ _ (if_then read_make (values_in 1 1 words) of_make) (
+    if_else (bytes_eq name (codes "image")) _ _ (if_then read_image (values_within 3 3 words) (of_image_run runs some_run)) (
+    if_else (bytes_eq name (codes "key")) _ _ (if_then read_key (values_within 2 2 words) of_key) (
+    if_else (bytes_eq name (codes "dis")) _ _ (if_then read_dis (values_within 3 3 words) of_dis) (
+    if_else (bytes_eq name (codes "challenge")) _ _ (if_then read_challenge (values_within 1 1 words) of_challenge) (
+    if_else (bytes_eq name (codes "vendor")) _ _ (if_then read_vendor (values_within 5 5 words) of_vendor) (
+    if_else (bytes_eq name (codes "check")) _ _ (if_then read_check (values_within 2 2 words) of_check) (
+    if_else (bytes_eq name (codes "balance")) _ _ (if_then read_balance (values_within 3 3 words) of_balance) (
+    if_else (bytes_eq name (codes "link")) _ _ (if_then read_link (values_within 2 65 words) (of_objects linked_image_text)) (
+    if_else (bytes_eq name (codes "run")) _ _ (if_then read_run (values_within 4 67 words) of_run) (
+    if_else (bytes_eq name (codes "lone")) _ _ (if_then read_lone (values_within 3 17 words) of_lone) (
+    if_else (bytes_eq name (codes "monitor")) _ _ (if_then read_monitor (values_within 3 3 words) of_monitor) (
+    if_else (bytes_eq name (codes "asm")) _ _ (if_then read_asm (values_within 1 1 words) of_asm) (
+    if_else (bytes_eq name (codes "make")) _ _ (if_then read_make (values_within 1 1 words) of_make) (
     if_none)))))))))))))
 
 -- what comes of the files of a command line is something

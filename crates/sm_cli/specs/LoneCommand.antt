@@ -17,7 +17,7 @@ use Rattle.cli_files.specs.declared.answers.Status.TheVariants as status
 use Rattle.sm_cli.specs.declared.pairs.Pair.{Pair}
 use Rattle.cli_calls.specs.Words.{Text}
 use Rattle.cli_calls.specs.Ids.{id_of}
-use Rattle.cli_calls.specs.Values.{cycles_of}
+use Rattle.cli_calls.specs.Values.{read_cycles}
 use Rattle.sm_cli.specs.Numbers.{number_line}
 use Rattle.sm_cli.specs.Pairs.{pairs_in, core_with}
 use Rattle.cli_files.specs.Files.{Held, an_image, image_with, need}
@@ -66,5 +66,5 @@ lone_with name (Some id) (Some limit) (Some pairs) = Some (lone_command name id 
 lone_with name _ _ _ = None
 
 abbrev pub read_lone : List Text → Option Command
-read_lone (name ∷ id ∷ limit ∷ pairs) = lone_with name (id_of id) (cycles_of limit) (pairs_in pairs)
+read_lone (name ∷ id ∷ limit ∷ pairs) = lone_with name (id_of id) (read_cycles limit) (pairs_in pairs)
 read_lone _ = None

@@ -2,7 +2,7 @@
 use Rattle.std.specs.Prelude.{ℕ, List, [], ◌∷◌, ◌++◌, Option, Some, None}
 use Rattle.std.specs.Option.{option_map}
 use Rattle.cli_calls.specs.Words.{Text}
-use Rattle.cli_calls.specs.Values.{file_named, cycles_of}
+use Rattle.cli_calls.specs.Values.{file_named, read_cycles}
 use Rattle.cli_files.specs.Files.{Held, a_schedule, a_layout, layout_file, need, schedule_needs, object_needs}
 use Rattle.cli_calls.specs.Command.{Outcome, runs, nothing, Command}
 use Rattle.cli_calls.specs.Linking.{objects_in, linked}
@@ -17,5 +17,5 @@ abbrev pub run_command : Text → Option Text → ℕ → List Text → Command
 run_command layout schedule cycles objects = record { needs = need layout layout_file ∷ (schedule_needs schedule ++ object_needs objects); outcome = run_outcome schedule cycles }
 
 abbrev pub read_run : List Text → Option Command
-read_run (layout ∷ schedule ∷ cycles ∷ objects) = option_map (λ n. run_command layout (file_named schedule) n objects) (cycles_of cycles)
+read_run (layout ∷ schedule ∷ cycles ∷ objects) = option_map (λ n. run_command layout (file_named schedule) n objects) (read_cycles cycles)
 read_run _ = None

@@ -3,7 +3,7 @@ ghost use Rattle.std.specs.Prelude.{◌≡◌, IfOk, IfSome, drop, option_and_th
 ghost use Rattle.sm_cli.specs.CommandLine.{command_by, command_of};
 ghost use Rattle.sm_cli.specs.internal.CommandLine.{asked, IsBounded};
 ghost use Rattle.sm_cli.specs.MakeCommand.{read_make};
-ghost use Rattle.cli_calls.specs.Words.{texts, values_in};
+ghost use Rattle.cli_calls.specs.Words.{texts, values_within};
 
 use cli_calls::{Answering, ImageRun, ObjectsCommand, read};
 use cli_files::{Refused, Status};
@@ -115,7 +115,7 @@ fn command_by<'a>(
 // The command `make`, which borrows none of its words.
 fn make_line<'a>(alloc: Global, words: &[String]) -> Result<Option<CommandLine<'a>>, AllocError>
     ensures command { IfOk result (λ o. option_map asked o ≡ option_and_then read_make
-        (values_in 1 1 (drop 1 (texts words.now)))) }
+        (values_within 1 1 (drop 1 (texts words.now)))) }
     ensures bounds { IfOk result (λ o. IfSome o IsBounded) }
 {
     match read::<MakeCommand>(alloc, "make", words, 1, 1)? {

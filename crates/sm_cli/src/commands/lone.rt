@@ -14,7 +14,7 @@ ghost use Rattle.cli_calls.specs.Runs.{EndsAs};
 
 use crate::pairs::{Pair, core_with, pairs_in};
 use arrayvec::ArrayString;
-use cli_calls::{Answering, Reading, cycles_of, id_of, text_of};
+use cli_calls::{Answering, Reading, id_of, read_cycles, text_of};
 use cli_files::{Chosen, NO_MEMORY, Refused, Status, load_with};
 use lone_run::{Entry, Outcome, call};
 use sm_io::{Failed, Files, Sink, put_all};
@@ -41,7 +41,7 @@ impl<'a> Reading<'a> for LoneCommand<'a> {
         match values {
             [image, id, limit, pairs @ ..] => {
                 let pairs = pairs_in(alloc, pairs)?;
-                Ok(command_with(image, id_of(id), cycles_of(limit), pairs))
+                Ok(command_with(image, id_of(id), read_cycles(limit), pairs))
             }
             _ => Ok(None),
         }

@@ -7,7 +7,7 @@ ghost use Rattle.sm_cli.specs.internal.RunCommand.{run_asked};
 
 use crate::commands::image::Trace;
 use board::Board;
-use cli_calls::{Answering, Reading, RunText, cycles_of, file_named};
+use cli_calls::{Answering, Reading, RunText, file_named, read_cycles};
 use cli_files::{NO_MEMORY, Refused, Status, linked_image, load, load_objects, load_schedule};
 use image_text::Image;
 use layout_file::Layout;
@@ -30,7 +30,7 @@ impl<'a> Reading<'a> for RunCommand<'a> {
 
     fn read_values(alloc: Global, values: &[&'a str]) -> Result<Option<Self>, AllocError> {
         match values {
-            [layout, schedule, cycles, objects @ ..] => match cycles_of(cycles) {
+            [layout, schedule, cycles, objects @ ..] => match read_cycles(cycles) {
                 Some(cycles) => Ok(Some(RunCommand {
                     layout,
                     schedule: file_named(schedule),

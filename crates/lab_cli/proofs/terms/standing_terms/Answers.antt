@@ -1,6 +1,6 @@
 use Rattle.cli_calls.specs.Offers.{stands}
 use Rattle.lab_cli.proofs.Settling.{kept_more}
-use Rattle.lab_cli.proofs.terms.standing.Goals as goal
+use Rattle.lab_cli.proofs.terms.standing_terms.Goals as goal
 
 pub loop-term-preserved : goal.loop-term-preserved
 loop-term-preserved c =
