@@ -1,6 +1,7 @@
 -- Something comes of the files of a command.
-use Rattle.std.proofs.Common.{◌≡◌, ℕ, Bool, true, false, if◌then◌else◌, List, [], ◌∷◌, Option, Some, None, option_map, subst}
+use Rattle.std.proofs.Common.{◌≡◌, ℕ, Bool, true, false, if◌then◌else◌, List, [], ◌∷◌, Option, Some, None, option_map, ◌∙◌, subst}
 use Rattle.std.specs.Prelude.{option_and_then}
+use Rattle.std.specs.Str.{bytes_eq}
 use Rattle.sm_io.specs.Files.{FileMap}
 use Rattle.image_text.specs.Image.{Image}
 use Rattle.schedule_file.specs.declared.Entry.{Entry}
@@ -9,11 +10,12 @@ use Rattle.elf_objects.specs.Object.{ObjectValue}
 use Rattle.link_symbols.specs.declared.fault.LinkFault.{LinkFault}
 use Rattle.linker.specs.Refusals.{link_fault_of}
 use Rattle.cli_files.specs.Files.{Held, a_layout, an_image, HoldAll}
-use Rattle.cli_calls.specs.Command.{Command, Outcome, done, nothing}
+use Rattle.cli_calls.specs.Command.{Command, Outcome, Comes, done, nothing}
 use Rattle.cli_calls.specs.ImageRuns.{entries_in, image_run_command, read_image_run}
 use Rattle.cli_calls.specs.Linking.{linked_by, objects_command, objects_in, read_objects}
+use Rattle.cli_calls.specs.CommandNames.{NamedCommand, command_by, command_of}
 use Rattle.cli_calls.specs.Values.{read_cycles, file_named}
-use Rattle.cli_calls.specs.Words.{Text}
+use Rattle.cli_calls.specs.Words.{Text, values_within}
 
 -- what files that serve the command hold comes to something
 abbrev pub Sound : Command → Type 0
@@ -71,3 +73,26 @@ of_objects text [] = if_none
 pub of_image_run : (told : Image → List Entry → ℕ → Outcome) → IsSomething told → (vs : List Text) → IfSound (read_image_run told vs)
 of_image_run told some (name ∷ schedule ∷ cycles ∷ []) = if_map (image_run_command told name (file_named schedule)) (read_cycles cycles) (sound_image_run told some name (file_named schedule))
 of_image_run told some _ = if_none
+
+-- ---- the commands of a program
+
+-- what each of these is given is sound
+abbrev pub AllSound : List NamedCommand → Type 0
+AllSound [] = Unit {0}
+AllSound (command ∷ commands) = ((vs : List Text) → IfSound (command.asks vs)) × AllSound commands
+
+by_name : (commands : List NamedCommand) (name : Text) (words : List Text) → AllSound commands
+    → IfSound (command_by commands name words)
+by_name [] name words s = if_none
+by_name (command ∷ commands) name words s =
+    if_else (bytes_eq name command.name) _ _ (if_then command.asks (values_within command.least command.most words) s.0)
+    (by_name commands name words s.1)
+
+-- what comes of the files of a command line is something
+pub something_comes : (commands : List NamedCommand) → AllSound commands → (words : List Text) (map : FileMap)
+    (command : Command) (outcome : Outcome)
+    → command_of commands words ≡ Some command → Comes (Some map) command outcome → outcome ≡ nothing → ⊥
+unfolding command_of
+something_comes commands s [] map command outcome c h e = cc
+something_comes commands s (name ∷ words) map command outcome c h e =
+    by_name commands name words s command c map h.helds h.hold (h.is ∙ e)

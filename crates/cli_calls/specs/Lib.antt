@@ -4,6 +4,7 @@ pub mod Values
 pub mod Verdicts
 pub mod Offers
 pub mod Command
+pub mod CommandNames
 pub mod Linking
 pub mod ImageRuns
 pub mod Runs

@@ -17,7 +17,8 @@ use Rattle.cli_calls.specs.Command.{Answer, offers, offer_answer, IsOffer, IsAns
 use Rattle.cli_calls.specs.Offers.{told_by, stands}
 use Rattle.cli_calls.specs.Words.{Text}
 use Rattle.cli_calls.proofs.Offering.{is_standing}
-use Rattle.lab_cli.specs.CommandLine.{command_of}
+use Rattle.cli_calls.specs.CommandNames.{command_of}
+use Rattle.lab_cli.specs.CommandLine.{lab_commands}
 use Rattle.lab_cli.specs.Offerings.{IsOffering, AreAccepted}
 use Rattle.lab_cli.specs.TermsCommand.{offer_command}
 use Rattle.lab_cli.proofs.UnderTerms.{judged_done}
@@ -48,7 +49,7 @@ accepted value owner granted arms answer P status taken o =
 
 pub are_accepted : (words : List Text) (files : Option FileMap) (before after : ℕ) (took : List ℕ → Type 0)
     (value : Image) (owner : Module) (granted : List Term) → IsOffering words files value owner granted
-    → Serves (called (codes "sancus-lab") (command_of words) files before after) Done took
+    → Serves (called (codes "sancus-lab") (command_of lab_commands words) files before after) Done took
     → AreAccepted value owner granted took
 are_accepted words files before after took value owner granted i s =
     let command = offer_command i.name i.id i.terms_name i.arms in

@@ -19,7 +19,8 @@ use Rattle.cli_calls.specs.Command.{Answer, IsJudged, IsAnswer}
 use Rattle.cli_calls.specs.Offers.{told_by}
 use Rattle.cli_calls.specs.Verdicts.{verdict_status}
 use Rattle.cli_calls.specs.Words.{Text}
-use Rattle.lab_cli.specs.CommandLine.{command_of}
+use Rattle.cli_calls.specs.CommandNames.{command_of}
+use Rattle.lab_cli.specs.CommandLine.{lab_commands}
 use Rattle.lab_cli.specs.ReleasedCommand.{judged_under, released_command}
 use Rattle.lab_cli.specs.Releases.{IsRelease}
 use Rattle.lab_cli.proofs.UnderTerms.{judged_done}
@@ -38,7 +39,7 @@ accepted terms owner text arms answer status j =
 
 pub released_peers : (words : List Text) (files : Option FileMap) (before after : ℕ) (took : List ℕ → Type 0) (value other : Image) (id : ℕ) (owner : Module) (terms : List Term)
     → IsRelease words files value id terms → DifferInData value other id owner → AgreeOn owner (told_by terms).public (section owner.ram value.memory) (section owner.ram other.memory)
-    → Serves (called (codes "sancus-lab") (command_of words) files before after) Done took → AcceptedButAnswers → AnswersMayBe → PeersBut value other id (told_by terms).answers
+    → Serves (called (codes "sancus-lab") (command_of lab_commands words) files before after) Done took → AcceptedButAnswers → AnswersMayBe → PeersBut value other id (told_by terms).answers
 released_peers words files before after took value other id owner terms i d agree s law registers =
     let command = released_command i.name id i.terms_name i.arms in
     let both : Some s.command ≡ Some command = sym s.asked ∙ i.command in

@@ -1,7 +1,5 @@
 -- What comes of the files of every command line.
-use Rattle.std.proofs.Common.{◌≡◌, ◌≢◌, ℕ, List, [], ◌∷◌, map, Option, Some, None, refl, sym, ◌∙◌, ap, subst}
-use Rattle.std.specs.Prelude.{codes}
-use Rattle.std.specs.Str.{bytes_eq}
+use Rattle.std.proofs.Common.{◌≡◌, ◌≢◌, ℕ, List, [], ◌∷◌, map, Option, Some, refl, sym, ◌∙◌, ap, subst}
 use Rattle.sm_io.specs.Files.{FileMap}
 use Rattle.image_text.specs.Image.{Image}
 use Rattle.link_map.specs.Map.{map_text}
@@ -12,13 +10,12 @@ use Rattle.cli_files.specs.declared.answers.Status.TheVariants as status
 use Rattle.cli_files.specs.Files.{need, image_file, an_image, Holds}
 use Rattle.cli_calls.specs.Calls.{Completes}
 use Rattle.cli_calls.specs.Command.{Command, Outcome, gives, offers, nothing, Comes}
-use Rattle.cli_calls.specs.Values.{file_named}
-use Rattle.cli_calls.specs.Words.{Text, values_within}
-use Rattle.cli_calls.proofs.Sound.{Sound, of_image_run, of_objects, IfSound, IsSomething, if_none, if_some, if_map, if_then, if_else}
-use Rattle.lab_cli.specs.CommandLine.{command_by, command_of}
-use Rattle.lab_cli.specs.MapCommand.{map_of}
+use Rattle.cli_calls.specs.Words.{Text}
+use Rattle.cli_calls.proofs.Sound.{Sound, AllSound, of_image_run, of_objects, IfSound, IsSomething, if_none, if_map, something_comes}
+use Rattle.cli_calls.specs.CommandNames.{command_of}
+use Rattle.lab_cli.specs.CommandLine.{lab_commands}
 use Rattle.lab_cli.specs.ReleasedCommand.{judged_under, released_of}
-use Rattle.lab_cli.specs.StepsCommand.{steps_of, steps_outcome}
+use Rattle.lab_cli.specs.StepsCommand.{steps_outcome}
 use Rattle.lab_cli.specs.SweepCommand.{pulses_of, sweep_answer, sweep_command, sweep_of, sweep_status}
 use Rattle.lab_cli.specs.TermsCommand.{offer_of}
 use Rattle.lab_cli.proofs.UnderTerms.{of_judged}
@@ -57,17 +54,9 @@ of_sweep : (vs : List Text) → IfSound (sweep_of vs)
 of_sweep (first ∷ second ∷ line ∷ from ∷ to ∷ cycles ∷ []) = if_map (sweep_command first second) (pulses_of line from to cycles) (sound_sweep first second)
 of_sweep _ = if_none
 
-of_name : (name : Text) (words : List Text) → IfSound (command_by name words)
-of_name name words =
-    if_else (bytes_eq name (codes "map")) _ _ (if_then map_of (values_within 2 65 words) (of_objects map_text)) (
-    if_else (bytes_eq name (codes "released")) _ _ (if_then released_of (values_within 4 4 words) of_released) (
-    if_else (bytes_eq name (codes "sweep")) _ _ (if_then sweep_of (values_within 6 6 words) of_sweep) (
-    if_else (bytes_eq name (codes "steps")) _ _ (if_then steps_of (values_within 3 3 words) (of_image_run steps_outcome some_steps)) (
-    if_else (bytes_eq name (codes "terms")) _ _ (if_then offer_of (values_within 4 4 words) of_offer) (
-    if_none)))))
+all_sound : AllSound lab_commands
+all_sound = (of_objects map_text, of_released, of_sweep, of_image_run steps_outcome some_steps, of_offer, tt)
 
 -- what comes of the files of a command line is something
-pub something : (words : List Text) (map : FileMap) (command : Command) (outcome : Outcome) → command_of words ≡ Some command → Comes (Some map) command outcome → outcome ≡ nothing → ⊥
-unfolding command_of
-something [] map command outcome c h e = cc
-something (name ∷ words) map command outcome c h e = of_name name words command c map h.helds h.hold (h.is ∙ e)
+pub something : (words : List Text) (map : FileMap) (command : Command) (outcome : Outcome) → command_of lab_commands words ≡ Some command → Comes (Some map) command outcome → outcome ≡ nothing → ⊥
+something = something_comes lab_commands all_sound

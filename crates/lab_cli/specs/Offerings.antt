@@ -13,7 +13,8 @@ use Rattle.terms_file.specs.Terms.{terms_text}
 use Rattle.cli_files.specs.Files.{an_image, the_terms, image_with, terms_file, need, Holds}
 use Rattle.cli_calls.specs.Offers.{told_by}
 use Rattle.cli_calls.specs.Words.{Text}
-use Rattle.lab_cli.specs.CommandLine.{command_of}
+use Rattle.cli_calls.specs.CommandNames.{command_of}
+use Rattle.lab_cli.specs.CommandLine.{lab_commands}
 use Rattle.lab_cli.specs.TermsCommand.{offer_command}
 
 -- the words are `terms` with this module's id, files of this image and these terms, and certificates or none
@@ -25,7 +26,7 @@ pub record IsOffering (words : List Text) (files : Option FileMap) (value : Imag
   pub id : ℕ
   pub terms_name : Text
   pub arms : Option Text
-  pub command : command_of words ≡ Some (offer_command name id terms_name arms)
+  pub command : command_of lab_commands words ≡ Some (offer_command name id terms_name arms)
   pub image_is : Holds (Some map) (need name (image_with id)) (an_image value)
   pub terms_are : Holds (Some map) (need terms_name terms_file) (the_terms granted)
   pub owned : module_of id value.table ≡ Some owner

@@ -1,7 +1,8 @@
 //! The commands: which there are.
 ghost use Rattle.std.specs.Prelude.{◌≡◌, IfOk, IfSome, drop, option_map};
 ghost use Rattle.cli_calls.specs.Words.{texts};
-ghost use Rattle.lab_cli.specs.CommandLine.{command_by, command_of};
+ghost use Rattle.cli_calls.specs.CommandNames.{command_by, command_of};
+ghost use Rattle.lab_cli.specs.CommandLine.{lab_commands};
 ghost use Rattle.lab_cli.specs.internal.CommandLine.{asked, IsBounded};
 
 use crate::map::MapText;
@@ -25,12 +26,12 @@ pub enum LabCommand<'a> {
 }
 
 /// The command that the words are.
-#[tactic(auto, unfolding(crate::specs::CommandLine::command_of))]
+#[tactic(auto, unfolding(cli_calls::specs::CommandNames::command_of))]
 pub fn read_command<'a>(
     alloc: Global,
     words: &'a [String],
 ) -> Result<Option<LabCommand<'a>>, AllocError>
-    ensures command { IfOk result (λ o. option_map asked o ≡ command_of (texts words.entry.now)) }
+    ensures command { IfOk result (λ o. option_map asked o ≡ command_of lab_commands (texts words.entry.now)) }
     ensures bounds { IfOk result (λ o. IfSome o IsBounded) }
 {
     if words.is_empty() {
@@ -45,7 +46,8 @@ fn command_by<'a>(
     name: &str,
     words: &'a [String],
 ) -> Result<Option<LabCommand<'a>>, AllocError>
-    ensures command { IfOk result (λ o. option_map asked o ≡ command_by name.now (drop 1 (texts words.entry.now))) }
+    ensures command { IfOk result (λ o. option_map asked o
+        ≡ command_by lab_commands name.now (drop 1 (texts words.entry.now))) }
     ensures bounds { IfOk result (λ o. IfSome o IsBounded) }
 {
     if name == "map" {

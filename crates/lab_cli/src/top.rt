@@ -16,7 +16,8 @@ ghost use Rattle.flow_rule.specs.Laws.{AgreeOn};
 ghost use Rattle.peer_rows.specs.Laws.{DifferInData};
 ghost use Rattle.terms_file.specs.declared.Term.{Term};
 ghost use Rattle.written_machine.specs.Peers.{Peers, PeersBut, section};
-ghost use Rattle.lab_cli.specs.CommandLine.{command_of};
+ghost use Rattle.cli_calls.specs.CommandNames.{command_of};
+ghost use Rattle.lab_cli.specs.CommandLine.{lab_commands};
 ghost use Rattle.lab_cli.specs.Offerings.{AreAccepted, IsOffering};
 ghost use Rattle.lab_cli.specs.Releases.{IsRelease};
 ghost use Rattle.lab_cli.specs.Sweeps.{IsSweep};
@@ -36,25 +37,25 @@ pub fn serve<F: Files, O: Sink, E: Sink>(
     err: &mut E,
 ) -> Status
     // An answer, or the line of a refusal, as words and files call for.
-    ensures ended { Ended (called (codes "sancus-lab") (command_of (texts words.now)) (F.content files.old)
+    ensures ended { Ended (called (codes "sancus-lab") (command_of lab_commands (texts words.now)) (F.content files.old)
         (F.faults files.old) (F.faults files.new)) result
         (Took O.taken O.faults O.sure out.old out.new) (CutOff O.taken O.faults O.sure out.old out.new)
         (Took E.taken E.faults E.sure err.old err.new) (CutOff E.taken E.faults E.sure err.old err.new)
         (err.new ≡ err.old) (out.new ≡ out.old) }
 
     // Completeness: what the words and the files call for is answered, unless the system fails or memory runs out.
-    ensures complete_usage { command_of (texts words.now) ≡ None → IsOrOutside Status.Usage result }
+    ensures complete_usage { command_of lab_commands (texts words.now) ≡ None → IsOrOutside Status.Usage result }
     ensures complete_bad_file { (map : FileMap) (command : Command) (name : List ℕ) (fault : FileFaults) →
-        F.content files.old ≡ Some map → command_of (texts words.now) ≡ Some command →
+        F.content files.old ≡ Some map → command_of lab_commands (texts words.now) ≡ Some command →
         IsFirstFault (Some map) command.needs name fault → IsOrOutside Status.BadFile result }
     ensures complete_link_refused { (map : FileMap) (command : Command) (fault : LinkFaults) (name : List ℕ) →
-        F.content files.old ≡ Some map → command_of (texts words.now) ≡ Some command →
+        F.content files.old ≡ Some map → command_of lab_commands (texts words.now) ≡ Some command →
         Comes (Some map) command (refuses fault name) → IsOrOutside Status.LinkRefused result }
     ensures complete { (map : FileMap) (command : Command) (outcome : Outcome) →
-        F.content files.old ≡ Some map → command_of (texts words.now) ≡ Some command →
+        F.content files.old ≡ Some map → command_of lab_commands (texts words.now) ≡ Some command →
         Comes (Some map) command outcome →
-        let call = called (codes "sancus-lab") (command_of (texts words.now)) (F.content files.old) (F.faults files.old)
-        (F.faults files.new) in
+        let call = called (codes "sancus-lab") (command_of lab_commands (texts words.now)) (F.content files.old)
+        (F.faults files.old) (F.faults files.new) in
         IfAnswered outcome (λ answer. Completes result answer
         (Took O.taken O.faults O.sure out.old out.new) (CutOff O.taken O.faults O.sure out.old out.new)
         ((ended : Statuses) × Refuses call ended (CutOff E.taken E.faults E.sure err.old err.new))) }

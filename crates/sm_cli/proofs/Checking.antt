@@ -16,10 +16,10 @@ use Rattle.cli_files.specs.declared.answers.Status.TheVariants.{Done}
 use Rattle.cli_files.specs.Files.{Held, an_image, certificates, image_with, arms_file, need, Holds, HoldAll}
 use Rattle.cli_calls.specs.Command.{Command, Answer, judges, Comes, Answers, IsJudged, IsAnswer}
 use Rattle.cli_calls.specs.Verdicts.{verdict_status}
+use Rattle.sm_cli.specs.Serve.{call_of}
 use Rattle.sm_cli.specs.CheckCommand.{check_command}
 use Rattle.sm_cli.specs.BalanceCommand.{balanced_by, balance_command}
 use Rattle.sm_cli.specs.Checked.{IsCheck, IsBalance}
-use Rattle.sm_cli.specs.Serve.{call_of}
 use Rattle.cli_calls.specs.Calls.{Serves}
 use Rattle.sm_cli.proofs.ShortText.{short_text}
 use Rattle.cli_calls.proofs.Outcomes.{one_outcome}

@@ -7,7 +7,8 @@ use Rattle.link_symbols.specs.declared.fault.LinkFault.{LinkFault}
 use Rattle.cli_files.specs.declared.answers.FileFault.{FileFault}
 use Rattle.cli_files.specs.declared.answers.FileFault.TheVariants as fault
 use Rattle.cli_files.specs.Files.{Held, most_bytes, HasFault, Need, Holds, HoldAll, IsFirstFault}
-use Rattle.sm_cli.specs.CommandLine.{command_of}
+use Rattle.cli_calls.specs.CommandNames.{command_of}
+use Rattle.sm_cli.specs.CommandLine.{sancus_commands}
 use Rattle.cli_calls.specs.Words.{Text}
 use Rattle.cli_calls.specs.Command.{Command, Outcome, refuses, nothing, Answer, IfAnswered, Comes, IsAnswer}
 use Rattle.cli_calls.proofs.Outcomes.{some_answer}
@@ -46,7 +47,7 @@ pub decided : IsDecided
 decided map command = ⊎_elim (λ h. inl (command.outcome h.0, record { helds = h.0; hold = h.1; is = refl })) (λ f. inr f) (all_found map command.needs)
 
 -- what holds of each answer that comes of files holds of one that there is
-pub if_answered : (words : List Text) (map : FileMap) (command : Command) (outcome : Outcome) (P : Answer → Type 0) → command_of words ≡ Some command → Comes (Some map) command outcome
+pub if_answered : (words : List Text) (map : FileMap) (command : Command) (outcome : Outcome) (P : Answer → Type 0) → command_of sancus_commands words ≡ Some command → Comes (Some map) command outcome
     → ((answer : Answer) → IsAnswer (Some map) command answer → P answer) → IfAnswered outcome P
 if_answered words map command outcome P asked c p = some_answer map command outcome P (something words map command outcome asked c) c p
 

@@ -7,7 +7,8 @@ use Rattle.schedule_file.specs.declared.Entry.{Entry}
 use Rattle.written_machine.specs.declared.ScriptLine.{ScriptLine}
 use Rattle.cli_files.specs.Files.{an_image, image_file, need, Holds}
 use Rattle.cli_calls.specs.Command.{Command, Outcome, gives, runs, Comes}
-use Rattle.sm_cli.specs.CommandLine.{command_of}
+use Rattle.cli_calls.specs.CommandNames.{command_of}
+use Rattle.sm_cli.specs.CommandLine.{sancus_commands}
 use Rattle.sm_cli.specs.ImageCommand.{image_command}
 use Rattle.sm_cli.specs.Input.{IsInput, IsScriptInput}
 use Rattle.sm_cli.specs.MonitorCommand.{monitor_command, script_answer}
@@ -21,7 +22,7 @@ pub record InputOf (words : List (List ℕ)) (files : Option FileMap) (outcome :
   pub map : FileMap
   pub command : Command
   pub told : files ≡ Some map
-  pub asked : command_of words ≡ Some command
+  pub asked : command_of sancus_commands words ≡ Some command
   pub comes : Comes (Some map) command outcome
 
 image_held : (files : FileMap) (name : List ℕ) (value : Image) → IsImage value → files name ≡ Some (image_text value) → Holds (Some files) (need name image_file) (an_image value)

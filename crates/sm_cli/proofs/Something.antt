@@ -1,7 +1,6 @@
 -- Something comes of the files of every command line.
-use Rattle.std.proofs.Common.{◌≡◌, ℕ, ◌%◌, ◌==◌, ◌&&◌, nat_le, true, is_some, List, [], ◌∷◌, Option, Some, None, option_map, ◌∙◌}
-use Rattle.std.specs.Prelude.{codes, option_and_then}
-use Rattle.std.specs.Str.{bytes_eq}
+use Rattle.std.proofs.Common.{◌≡◌, ℕ, ◌%◌, ◌==◌, ◌&&◌, nat_le, true, is_some, List, [], ◌∷◌, Option, Some, None, option_map}
+use Rattle.std.specs.Prelude.{option_and_then}
 use Rattle.sm_io.specs.Files.{FileMap}
 use Rattle.texts.specs.Hexadecimals.{read_hex_word, read_hex_key}
 use Rattle.mod_layout.specs.declared.Module.{Module}
@@ -11,21 +10,21 @@ use Rattle.linker.specs.Refusals.{link_fault_of}
 use Rattle.arm_balance.specs.declared.Arm.{Arm}
 use Rattle.vendor_tool.specs.declared.Challenge.{Challenge}
 use Rattle.cli_files.specs.Files.{an_image, a_schedule, the_challenges, the_replies, certificates, a_layout, a_script, a_unit}
-use Rattle.cli_calls.specs.Words.{Text, values_within}
+use Rattle.cli_calls.specs.Words.{Text}
 use Rattle.cli_calls.specs.Ids.{id_of}
 use Rattle.cli_calls.specs.Values.{read_cycles, file_named}
 use Rattle.cli_calls.specs.Command.{Command, Outcome, runs, nothing, Comes}
-use Rattle.sm_cli.specs.CommandLine.{command_by, command_of}
+use Rattle.cli_calls.specs.CommandNames.{command_of}
+use Rattle.sm_cli.specs.CommandLine.{sancus_commands}
 use Rattle.sm_cli.specs.AsmCommand.{asm_command, read_asm}
 use Rattle.sm_cli.specs.BalanceCommand.{balanced_by, balance_command, balance_in, read_balance}
 use Rattle.sm_cli.specs.ChallengeCommand.{challenge_command, read_challenge}
 use Rattle.sm_cli.specs.CheckCommand.{check_command, read_check}
 use Rattle.sm_cli.specs.DisCommand.{dis_command, range_command, read_dis}
-use Rattle.sm_cli.specs.ImageCommand.{read_image}
 use Rattle.sm_cli.specs.KeyCommand.{keys_by, key_command, read_key}
 use Rattle.cli_calls.specs.Linking.{objects_in}
-use Rattle.cli_calls.proofs.Sound.{Sound, some_linked, of_image_run, of_objects, IfSound, IsSomething, if_none, if_some, if_map, if_then, if_else}
-use Rattle.sm_cli.specs.LinkCommand.{read_link, linked_image_text}
+use Rattle.cli_calls.proofs.Sound.{Sound, AllSound, some_linked, of_image_run, of_objects, IfSound, IsSomething, if_none, if_some, if_map, if_then, if_else, something_comes}
+use Rattle.sm_cli.specs.LinkCommand.{linked_image_text}
 use Rattle.sm_cli.specs.LoneCommand.{lone_by, lone_command, lone_with, read_lone}
 use Rattle.sm_cli.specs.MakeCommand.{make_command, read_make, seed_of}
 use Rattle.sm_cli.specs.MonitorCommand.{monitor_command, read_monitor}
@@ -195,25 +194,24 @@ of_make : (vs : List Text) → IfSound (read_make vs)
 of_make (seed ∷ []) = if_map make_command (seed_of seed) sound_make
 of_make _ = if_none
 
-of_name : (name : Text) (words : List Text) → IfSound (command_by name words)
-of_name name words =
-    if_else (bytes_eq name (codes "image")) _ _ (if_then read_image (values_within 3 3 words) (of_image_run runs some_run)) (
-    if_else (bytes_eq name (codes "key")) _ _ (if_then read_key (values_within 2 2 words) of_key) (
-    if_else (bytes_eq name (codes "dis")) _ _ (if_then read_dis (values_within 3 3 words) of_dis) (
-    if_else (bytes_eq name (codes "challenge")) _ _ (if_then read_challenge (values_within 1 1 words) of_challenge) (
-    if_else (bytes_eq name (codes "vendor")) _ _ (if_then read_vendor (values_within 5 5 words) of_vendor) (
-    if_else (bytes_eq name (codes "check")) _ _ (if_then read_check (values_within 2 2 words) of_check) (
-    if_else (bytes_eq name (codes "balance")) _ _ (if_then read_balance (values_within 3 3 words) of_balance) (
-    if_else (bytes_eq name (codes "link")) _ _ (if_then read_link (values_within 2 65 words) (of_objects linked_image_text)) (
-    if_else (bytes_eq name (codes "run")) _ _ (if_then read_run (values_within 4 67 words) of_run) (
-    if_else (bytes_eq name (codes "lone")) _ _ (if_then read_lone (values_within 3 17 words) of_lone) (
-    if_else (bytes_eq name (codes "monitor")) _ _ (if_then read_monitor (values_within 3 3 words) of_monitor) (
-    if_else (bytes_eq name (codes "asm")) _ _ (if_then read_asm (values_within 1 1 words) of_asm) (
-    if_else (bytes_eq name (codes "make")) _ _ (if_then read_make (values_within 1 1 words) of_make) (
-    if_none)))))))))))))
+all_sound : AllSound sancus_commands
+all_sound = (
+  of_image_run runs some_run,
+  of_key,
+  of_dis,
+  of_challenge,
+  of_vendor,
+  of_check,
+  of_balance,
+  of_objects linked_image_text,
+  of_run,
+  of_lone,
+  of_monitor,
+  of_asm,
+  of_make,
+  tt,
+)
 
 -- what comes of the files of a command line is something
-pub something : (words : List Text) (map : FileMap) (command : Command) (outcome : Outcome) → command_of words ≡ Some command → Comes (Some map) command outcome → outcome ≡ nothing → ⊥
-unfolding command_of
-something [] map command outcome c h e = cc
-something (name ∷ words) map command outcome c h e = of_name name words command c map h.helds h.hold (h.is ∙ e)
+pub something : (words : List Text) (map : FileMap) (command : Command) (outcome : Outcome) → command_of sancus_commands words ≡ Some command → Comes (Some map) command outcome → outcome ≡ nothing → ⊥
+something = something_comes sancus_commands all_sound

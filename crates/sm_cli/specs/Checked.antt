@@ -4,7 +4,8 @@ use Rattle.sm_io.specs.Files.{FileMap}
 use Rattle.image_text.specs.Image.{Image, IsImage}
 use Rattle.image_text.specs.ImageText.{image_text}
 use Rattle.cli_calls.specs.Words.{Text}
-use Rattle.sm_cli.specs.CommandLine.{command_of}
+use Rattle.cli_calls.specs.CommandNames.{command_of}
+use Rattle.sm_cli.specs.CommandLine.{sancus_commands}
 use Rattle.sm_cli.specs.CheckCommand.{check_command}
 use Rattle.sm_cli.specs.BalanceCommand.{balance_command}
 
@@ -13,7 +14,7 @@ pub record IsCheck (words : List Text) (files : Option FileMap) (value : Image) 
   pub map : FileMap
   pub told : files ≡ Some map
   pub name : Text
-  pub command : command_of words ≡ Some (check_command name id)
+  pub command : command_of sancus_commands words ≡ Some (check_command name id)
   pub image : IsImage value
   pub file : map name ≡ Some (image_text value)
 
@@ -23,6 +24,6 @@ pub record IsBalance (words : List Text) (files : Option FileMap) (value : Image
   pub told : files ≡ Some map
   pub name : Text
   pub arms : Text
-  pub command : command_of words ≡ Some (balance_command name id arms)
+  pub command : command_of sancus_commands words ≡ Some (balance_command name id arms)
   pub image : IsImage value
   pub file : map name ≡ Some (image_text value)

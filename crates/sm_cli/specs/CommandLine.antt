@@ -1,8 +1,6 @@
--- The command of the words after the program's name.
-use Rattle.std.specs.Prelude.{List, [], ◌∷◌, Option, None, option_and_then, codes, if◌then◌else◌}
-use Rattle.std.specs.Str.{bytes_eq}
-use Rattle.cli_calls.specs.Words.{Text, values_within}
-use Rattle.cli_calls.specs.Command.{Command}
+-- The commands of `sancus`.
+use Rattle.std.specs.Prelude.{List, [], ◌∷◌, codes}
+use Rattle.cli_calls.specs.CommandNames.{NamedCommand}
 use Rattle.sm_cli.specs.ImageCommand.{read_image}
 use Rattle.sm_cli.specs.KeyCommand.{read_key}
 use Rattle.sm_cli.specs.DisCommand.{read_dis}
@@ -17,26 +15,20 @@ use Rattle.sm_cli.specs.MonitorCommand.{read_monitor}
 use Rattle.sm_cli.specs.AsmCommand.{read_asm}
 use Rattle.sm_cli.specs.MakeCommand.{read_make}
 
--- by the first word, with the fewest and the most values that may follow
-abbrev pub command_by : Text → List Text → Option Command
-command_by name words =
-    if bytes_eq name (codes "image") then option_and_then read_image (values_within 3 3 words)
-    else if bytes_eq name (codes "key") then option_and_then read_key (values_within 2 2 words)
-    else if bytes_eq name (codes "dis") then option_and_then read_dis (values_within 3 3 words)
-    else if bytes_eq name (codes "challenge") then option_and_then read_challenge (values_within 1 1 words)
-    else if bytes_eq name (codes "vendor") then option_and_then read_vendor (values_within 5 5 words)
-    else if bytes_eq name (codes "check") then option_and_then read_check (values_within 2 2 words)
-    else if bytes_eq name (codes "balance") then option_and_then read_balance (values_within 3 3 words)
-    else if bytes_eq name (codes "link") then option_and_then read_link (values_within 2 65 words)
-    else if bytes_eq name (codes "run") then option_and_then read_run (values_within 4 67 words)
+abbrev pub sancus_commands : List NamedCommand
+sancus_commands =
+    record { name = codes "image"; least = 3; most = 3; asks = read_image }
+    ∷ record { name = codes "key"; least = 2; most = 2; asks = read_key }
+    ∷ record { name = codes "dis"; least = 3; most = 3; asks = read_dis }
+    ∷ record { name = codes "challenge"; least = 1; most = 1; asks = read_challenge }
+    ∷ record { name = codes "vendor"; least = 5; most = 5; asks = read_vendor }
+    ∷ record { name = codes "check"; least = 2; most = 2; asks = read_check }
+    ∷ record { name = codes "balance"; least = 3; most = 3; asks = read_balance }
+    ∷ record { name = codes "link"; least = 2; most = 65; asks = read_link }
+    ∷ record { name = codes "run"; least = 4; most = 67; asks = read_run }
     -- more than fourteen pairs name some register twice
-    else if bytes_eq name (codes "lone") then option_and_then read_lone (values_within 3 17 words)
-    else if bytes_eq name (codes "monitor") then option_and_then read_monitor (values_within 3 3 words)
-    else if bytes_eq name (codes "asm") then option_and_then read_asm (values_within 1 1 words)
-    else if bytes_eq name (codes "make") then option_and_then read_make (values_within 1 1 words)
-    else None
-
--- what the words ask for, or none
-unfoldable pub command_of : List Text → Option Command
-command_of [] = None
-command_of (name ∷ words) = command_by name words
+    ∷ record { name = codes "lone"; least = 3; most = 17; asks = read_lone }
+    ∷ record { name = codes "monitor"; least = 3; most = 3; asks = read_monitor }
+    ∷ record { name = codes "asm"; least = 1; most = 1; asks = read_asm }
+    ∷ record { name = codes "make"; least = 1; most = 1; asks = read_make }
+    ∷ []

@@ -10,7 +10,8 @@ use Rattle.schedule_file.specs.declared.Entry.{Entry}
 use Rattle.cli_calls.specs.Words.{Text}
 use Rattle.written_machine.specs.declared.ScriptLine.{ScriptLine}
 use Rattle.cli_files.specs.Files.{IsScheduleOf, need, layout_file, a_layout, object_needs, an_object, script_file, a_script, Holds, HoldAll}
-use Rattle.sm_cli.specs.CommandLine.{command_of}
+use Rattle.cli_calls.specs.CommandNames.{command_of}
+use Rattle.sm_cli.specs.CommandLine.{sancus_commands}
 use Rattle.sm_cli.specs.ImageCommand.{image_command}
 use Rattle.linker.specs.Image.{linked_image}
 use Rattle.sm_cli.specs.MonitorCommand.{monitor_command}
@@ -22,7 +23,7 @@ pub record IsImageInput (words : List Text) (files : Option FileMap) (value : Im
   pub told : files ≡ Some files_map
   pub name : Text
   pub schedule : Option Text
-  pub command : command_of words ≡ Some (image_command name schedule cycles)
+  pub command : command_of sancus_commands words ≡ Some (image_command name schedule cycles)
   pub image : IsImage value
   pub file : files_map name ≡ Some (image_text value)
   pub entries_are : IsScheduleOf (Some files_map) schedule entries
@@ -34,7 +35,7 @@ pub record IsRunInput (words : List Text) (files : Option FileMap) (value : Imag
   pub layout_name : Text
   pub schedule : Option Text
   pub object_names : List Text
-  pub command : command_of words ≡ Some (run_command layout_name schedule cycles object_names)
+  pub command : command_of sancus_commands words ≡ Some (run_command layout_name schedule cycles object_names)
   pub layout : LayoutValue
   pub layout_is : Holds (Some files_map) (need layout_name layout_file) (a_layout layout)
   pub objects : List ObjectValue
@@ -54,7 +55,7 @@ pub record IsScriptInput (words : List Text) (files : Option FileMap) (value : I
   pub name : Text
   pub schedule : Option Text
   pub script_name : Text
-  pub command : command_of words ≡ Some (monitor_command name schedule script_name)
+  pub command : command_of sancus_commands words ≡ Some (monitor_command name schedule script_name)
   pub image : IsImage value
   pub file : files_map name ≡ Some (image_text value)
   pub entries_are : IsScheduleOf (Some files_map) schedule entries

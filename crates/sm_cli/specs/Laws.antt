@@ -18,7 +18,8 @@ use Rattle.cli_files.specs.Files.{IsFirstFault}
 use Rattle.cli_files.specs.Refusal.{refusal_line}
 use Rattle.cli_calls.specs.Command.{Command, Outcome, refuses, Comes, Answer, IsAnswer, trace_answer}
 use Rattle.link_symbols.specs.declared.fault.LinkFault.{LinkFault}
-use Rattle.sm_cli.specs.CommandLine.{command_of}
+use Rattle.cli_calls.specs.CommandNames.{command_of}
+use Rattle.sm_cli.specs.CommandLine.{sancus_commands}
 use Rattle.sm_cli.specs.MakeCommand.{run_text, run_start}
 use Rattle.cli_calls.specs.Calls.{Call, Serves, IsCalledFor, Refuses}
 use Rattle.cli_calls.specs.Words.{Text}
@@ -29,7 +30,7 @@ IsDecided = (map : FileMap) (command : Command) → ((outcome : Outcome) × Come
 
 -- And of every command line an answer comes of it, unless objects do not link.
 abbrev pub IsAnswered : Type 0
-IsAnswered = (words : List Text) (map : FileMap) (command : Command) (outcome : Outcome) → command_of words ≡ Some command → Comes (Some map) command outcome →
+IsAnswered = (words : List Text) (map : FileMap) (command : Command) (outcome : Outcome) → command_of sancus_commands words ≡ Some command → Comes (Some map) command outcome →
     ((answer : Answer) × IsAnswer (Some map) command answer) ⊎ ((fault : LinkFault) × (name : List ℕ) × (outcome ≡ refuses fault name))
 
 -- And no other answer comes of it.

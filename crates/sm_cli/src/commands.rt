@@ -1,6 +1,7 @@
 // The commands: which there are.
 ghost use Rattle.std.specs.Prelude.{◌≡◌, IfOk, IfSome, drop, option_and_then, option_map};
-ghost use Rattle.sm_cli.specs.CommandLine.{command_by, command_of};
+ghost use Rattle.cli_calls.specs.CommandNames.{command_by, command_of};
+ghost use Rattle.sm_cli.specs.CommandLine.{sancus_commands};
 ghost use Rattle.sm_cli.specs.internal.CommandLine.{asked, IsBounded};
 ghost use Rattle.sm_cli.specs.MakeCommand.{read_make};
 ghost use Rattle.cli_calls.specs.Words.{texts, values_within};
@@ -57,12 +58,12 @@ pub enum CommandLine<'a> {
 }
 
 /// The command that the words are.
-#[tactic(auto, unfolding(crate::specs::CommandLine::command_of))]
+#[tactic(auto, unfolding(cli_calls::specs::CommandNames::command_of))]
 pub fn read_command<'a>(
     alloc: Global,
     words: &'a [String],
 ) -> Result<Option<CommandLine<'a>>, AllocError>
-    ensures command { IfOk result (λ o. option_map asked o ≡ command_of (texts words.entry.now)) }
+    ensures command { IfOk result (λ o. option_map asked o ≡ command_of sancus_commands (texts words.entry.now)) }
     ensures bounds { IfOk result (λ o. IfSome o IsBounded) }
 {
     if words.is_empty() {
@@ -77,7 +78,8 @@ fn command_by<'a>(
     name: &str,
     words: &'a [String],
 ) -> Result<Option<CommandLine<'a>>, AllocError>
-    ensures command { IfOk result (λ o. option_map asked o ≡ command_by name.now (drop 1 (texts words.entry.now))) }
+    ensures command { IfOk result (λ o. option_map asked o
+        ≡ command_by sancus_commands name.now (drop 1 (texts words.entry.now))) }
     ensures bounds { IfOk result (λ o. IfSome o IsBounded) }
 {
     if name == "image" {

@@ -18,12 +18,13 @@ ghost use Rattle.cli_files.specs.declared.answers.FileFault.{FileFault as FileFa
 ghost use Rattle.sm_cli.specs.Checked.{IsCheck, IsBalance};
 ghost use Rattle.cli_calls.specs.Command.{Command, Outcome, Comes, IfAnswered, refuses, run_status};
 ghost use Rattle.link_symbols.specs.declared.fault.LinkFault.{LinkFault as LinkFaults};
-ghost use Rattle.sm_cli.specs.CommandLine.{command_of};
+ghost use Rattle.cli_calls.specs.CommandNames.{command_of};
+ghost use Rattle.sm_cli.specs.Serve.{call_of};
+ghost use Rattle.sm_cli.specs.CommandLine.{sancus_commands};
 ghost use Rattle.cli_files.specs.Files.{IsFirstFault};
 ghost use Rattle.sm_cli.specs.Input.{IsInput, IsScriptInput};
 ghost use Rattle.sm_cli.specs.MonitorCommand.{script_start, script_answer};
 ghost use Rattle.cli_calls.specs.Words.{texts};
-ghost use Rattle.sm_cli.specs.Serve.{call_of};
 ghost use Rattle.cli_calls.specs.Calls.{Serves, Refuses, IsOrOutside, Completes};
 
 use crate::commands::read_command;
@@ -112,15 +113,15 @@ pub fn serve<F: Files, O: Sink, E: Sink>(
         × (out.new ≡ out.old)) }
 
     // Completeness: what the words and the files call for is answered, unless the system fails or memory runs out.
-    ensures complete_usage { command_of (texts words.now) ≡ None → IsOrOutside Status.Usage result }
+    ensures complete_usage { command_of sancus_commands (texts words.now) ≡ None → IsOrOutside Status.Usage result }
     ensures complete_bad_file { (map : FileMap) (command : Command) (name : List ℕ) (fault : FileFaults) →
-        F.content files.old ≡ Some map → command_of (texts words.now) ≡ Some command →
+        F.content files.old ≡ Some map → command_of sancus_commands (texts words.now) ≡ Some command →
         IsFirstFault (Some map) command.needs name fault → IsOrOutside Status.BadFile result }
     ensures complete_link_refused { (map : FileMap) (command : Command) (fault : LinkFaults) (name : List ℕ) →
-        F.content files.old ≡ Some map → command_of (texts words.now) ≡ Some command →
+        F.content files.old ≡ Some map → command_of sancus_commands (texts words.now) ≡ Some command →
         Comes (Some map) command (refuses fault name) → IsOrOutside Status.LinkRefused result }
     ensures complete { (map : FileMap) (command : Command) (outcome : Outcome) →
-        F.content files.old ≡ Some map → command_of (texts words.now) ≡ Some command →
+        F.content files.old ≡ Some map → command_of sancus_commands (texts words.now) ≡ Some command →
         Comes (Some map) command outcome →
         let call = call_of (texts words.now) (F.content files.old) (F.faults files.old) (F.faults files.new) in
         IfAnswered outcome (λ answer. Completes result answer

@@ -3,7 +3,8 @@ use Rattle.cli_calls.specs.Words.{texts}
 use Rattle.cli_files.specs.declared.answers.Status.TheVariants as status
 use Rattle.cli_calls.proofs.Ending.{at, no_command, bad_file, link_refused, completes}
 use Rattle.cli_calls.proofs.Outcomes.{some_answer}
-use Rattle.lab_cli.specs.CommandLine.{command_of}
+use Rattle.cli_calls.specs.CommandNames.{command_of}
+use Rattle.lab_cli.specs.CommandLine.{lab_commands}
 use Rattle.cli_calls.proofs.Given.{gives_answer}
 use Rattle.lab_cli.specs.SweepCommand.{sweep_answer, sweep_command}
 use Rattle.lab_cli.proofs.Accepting.{are_accepted}
@@ -12,7 +13,7 @@ use Rattle.lab_cli.proofs.Serving.{no_row_differs, something, sweep_comes}
 use Rattle.lab_cli.proofs.top.serve.Goals as goal
 
 pub returns-clause-ended : goal.returns-clause-ended
-returns-clause-ended g c = c.end_call.ensures.ended (command_of (texts c.args.words.now)) c.read_command-read.ensures.command
+returns-clause-ended g c = c.end_call.ensures.ended (command_of lab_commands (texts c.args.words.now)) c.read_command-read.ensures.command
 
 pub returns-clause-complete_usage : goal.returns-clause-complete_usage
 returns-clause-complete_usage g c = no_command _ _ _ _ _ _ _ _ (returns-clause-ended g c)

@@ -1,7 +1,8 @@
 use Rattle.std.proofs.Common.{[], refl, subst}
 use Rattle.sm_io.specs.Sink.{Took}
 use Rattle.cli_calls.specs.Command.{gives, runs, trace_answer}
-use Rattle.sm_cli.specs.CommandLine.{command_of}
+use Rattle.cli_calls.specs.CommandNames.{command_of}
+use Rattle.sm_cli.specs.CommandLine.{sancus_commands}
 use Rattle.sm_cli.specs.MonitorCommand.{script_answer}
 use Rattle.sm_cli.specs.declared.commands.script.TheConstants.{MOST_MARKS}
 use Rattle.cli_calls.specs.Words.{texts}
@@ -20,7 +21,7 @@ returns g c =
     let after = g.F.Files.faults c.end_call.new.files in
     let took = Took g.O.Sink.taken g.O.Sink.faults g.O.Sink.sure c.args.out.now c.end_call.new.out in
     let ended = c.end_call.result in
-    let end = c.end_call.ensures.ended (command_of words) c.read_command-read.ensures.command in
+    let end = c.end_call.ensures.ended (command_of sancus_commands words) c.read_command-read.ensures.command in
     let out_rose = cut_rose g.O.Sink.taken g.O.Sink.faults g.O.Sink.sure c.args.out.now c.end_call.new.out in
     let err_rose = cut_rose g.E.Sink.taken g.E.Sink.faults g.E.Sink.sure c.args.err.now c.end_call.new.err in
     record {
