@@ -3,7 +3,7 @@ ghost use Rattle.std.specs.Prelude.{◌≡◌, IfOk, IfSome, drop, option_map};
 ghost use Rattle.cli_calls.specs.Words.{texts};
 ghost use Rattle.cli_calls.specs.CommandNames.{command_by, command_of};
 ghost use Rattle.lab_cli.specs.CommandLine.{lab_commands};
-ghost use Rattle.lab_cli.specs.internal.CommandLine.{asked, IsBounded};
+ghost use Rattle.lab_cli.specs.internal.CommandLine.{lab_asks, IsLabBounded};
 
 use crate::map::MapText;
 use crate::released::{self, ReleasedCommand};
@@ -31,8 +31,8 @@ pub fn read_command<'a>(
     alloc: Global,
     words: &'a [String],
 ) -> Result<Option<LabCommand<'a>>, AllocError>
-    ensures command { IfOk result (λ o. option_map asked o ≡ command_of lab_commands (texts words.entry.now)) }
-    ensures bounds { IfOk result (λ o. IfSome o IsBounded) }
+    ensures command { IfOk result (λ o. option_map lab_asks o ≡ command_of lab_commands (texts words.entry.now)) }
+    ensures bounds { IfOk result (λ o. IfSome o IsLabBounded) }
 {
     if words.is_empty() {
         return Ok(None);
@@ -46,9 +46,9 @@ fn command_by<'a>(
     name: &str,
     words: &'a [String],
 ) -> Result<Option<LabCommand<'a>>, AllocError>
-    ensures command { IfOk result (λ o. option_map asked o
+    ensures command { IfOk result (λ o. option_map lab_asks o
         ≡ command_by lab_commands name.now (drop 1 (texts words.entry.now))) }
-    ensures bounds { IfOk result (λ o. IfSome o IsBounded) }
+    ensures bounds { IfOk result (λ o. IfSome o IsLabBounded) }
 {
     if name == "map" {
         Ok(read::<ObjectsCommand<MapText>>(alloc, "map", words, 2, 65)?.map(LabCommand::Map))
@@ -66,9 +66,9 @@ fn command_by<'a>(
 }
 
 impl Answering for LabCommand<'_> {
-    ghost asked = { λ line. asked line };
+    ghost asked = { λ line. lab_asks line };
 
-    ghost bounds = { λ line. IsBounded line };
+    ghost bounds = { λ line. IsLabBounded line };
 
     fn answer<F: Files, O: Sink>(
         &self,

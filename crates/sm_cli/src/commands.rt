@@ -2,7 +2,7 @@
 ghost use Rattle.std.specs.Prelude.{◌≡◌, IfOk, IfSome, drop, option_and_then, option_map};
 ghost use Rattle.cli_calls.specs.CommandNames.{command_by, command_of};
 ghost use Rattle.sm_cli.specs.CommandLine.{sancus_commands};
-ghost use Rattle.sm_cli.specs.internal.CommandLine.{asked, IsBounded};
+ghost use Rattle.sm_cli.specs.internal.CommandLine.{asked, IsCommandBounded};
 ghost use Rattle.sm_cli.specs.MakeCommand.{read_make};
 ghost use Rattle.cli_calls.specs.Words.{texts, values_within};
 
@@ -64,7 +64,7 @@ pub fn read_command<'a>(
     words: &'a [String],
 ) -> Result<Option<CommandLine<'a>>, AllocError>
     ensures command { IfOk result (λ o. option_map asked o ≡ command_of sancus_commands (texts words.entry.now)) }
-    ensures bounds { IfOk result (λ o. IfSome o IsBounded) }
+    ensures bounds { IfOk result (λ o. IfSome o IsCommandBounded) }
 {
     if words.is_empty() {
         return Ok(None);
@@ -80,7 +80,7 @@ fn command_by<'a>(
 ) -> Result<Option<CommandLine<'a>>, AllocError>
     ensures command { IfOk result (λ o. option_map asked o
         ≡ command_by sancus_commands name.now (drop 1 (texts words.entry.now))) }
-    ensures bounds { IfOk result (λ o. IfSome o IsBounded) }
+    ensures bounds { IfOk result (λ o. IfSome o IsCommandBounded) }
 {
     if name == "image" {
         Ok(read::<ImageRun<Trace>>(alloc, "image", words, 3, 3)?.map(CommandLine::Image))
@@ -118,7 +118,7 @@ fn command_by<'a>(
 fn make_line<'a>(alloc: Global, words: &[String]) -> Result<Option<CommandLine<'a>>, AllocError>
     ensures command { IfOk result (λ o. option_map asked o ≡ option_and_then read_make
         (values_within 1 1 (drop 1 (texts words.now)))) }
-    ensures bounds { IfOk result (λ o. IfSome o IsBounded) }
+    ensures bounds { IfOk result (λ o. IfSome o IsCommandBounded) }
 {
     match read::<MakeCommand>(alloc, "make", words, 1, 1)? {
         Some(command) => Ok(Some(CommandLine::Make(command))),
@@ -129,7 +129,7 @@ fn make_line<'a>(alloc: Global, words: &[String]) -> Result<Option<CommandLine<'
 impl Answering for CommandLine<'_> {
     ghost asked = { λ line. asked line };
 
-    ghost bounds = { λ line. IsBounded line };
+    ghost bounds = { λ line. IsCommandBounded line };
 
     fn answer<F: Files, O: Sink>(
         &self,

@@ -15,17 +15,17 @@ use Rattle.lab_cli.specs.StepsCommand.{steps_outcome}
 use Rattle.lab_cli.specs.internal.TermsCommand.{offer_asked}
 
 -- what the program's value asks for
-abbrev pub asked : LabCommand → Command
-asked (line.Map c) = objects_command map_text c.layout.now (map (λ o. o.now) c.objects.items)
-asked (line.Released c) = released_asked c
-asked (line.Sweep c) = sweep_command c.first.now c.second.now c.pulses
-asked (line.Steps c) = image_run_command steps_outcome c.image.now (option_copied c.schedule) c.cycles
-asked (line.Terms c) = offer_asked c
+abbrev pub lab_asks : LabCommand → Command
+lab_asks (line.Map c) = objects_command map_text c.layout.now (map (λ o. o.now) c.objects.items)
+lab_asks (line.Released c) = released_asked c
+lab_asks (line.Sweep c) = sweep_command c.first.now c.second.now c.pulses
+lab_asks (line.Steps c) = image_run_command steps_outcome c.image.now (option_copied c.schedule) c.cycles
+lab_asks (line.Terms c) = offer_asked c
 
 -- its numbers are within their bounds
-abbrev pub IsBounded : LabCommand → Type 0
-IsBounded (line.Map c) = length c.objects.items ≤ 64
-IsBounded (line.Released c) = Unit {0}
-IsBounded (line.Sweep c) = IsWithin c.pulses
-IsBounded (line.Steps c) = c.cycles ≤ MAX_CYCLES
-IsBounded (line.Terms c) = Unit {0}
+abbrev pub IsLabBounded : LabCommand → Type 0
+IsLabBounded (line.Map c) = length c.objects.items ≤ 64
+IsLabBounded (line.Released c) = Unit {0}
+IsLabBounded (line.Sweep c) = IsWithin c.pulses
+IsLabBounded (line.Steps c) = c.cycles ≤ MAX_CYCLES
+IsLabBounded (line.Terms c) = Unit {0}

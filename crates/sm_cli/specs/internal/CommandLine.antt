@@ -37,10 +37,10 @@ asked (line.Asm c) = asm_command c.source.now
 asked (line.Make c) = make_command c.seed
 
 -- its numbers are within their bounds
-abbrev pub IsBounded : CommandLine → Type 0
-IsBounded (line.Image c) = c.cycles ≤ MAX_CYCLES
-IsBounded (line.Dis c) = c.start % 2 ≡ 0
-IsBounded (line.Link c) = length c.objects.items ≤ 64
-IsBounded (line.Run c) = (length c.objects.items ≤ 64) × (c.cycles ≤ MAX_CYCLES)
-IsBounded (line.Lone c) = c.limit ≤ MAX_CYCLES
-IsBounded _ = Unit {0}
+abbrev pub IsCommandBounded : CommandLine → Type 0
+IsCommandBounded (line.Image c) = c.cycles ≤ MAX_CYCLES
+IsCommandBounded (line.Dis c) = c.start % 2 ≡ 0
+IsCommandBounded (line.Link c) = length c.objects.items ≤ 64
+IsCommandBounded (line.Run c) = (length c.objects.items ≤ 64) × (c.cycles ≤ MAX_CYCLES)
+IsCommandBounded (line.Lone c) = c.limit ≤ MAX_CYCLES
+IsCommandBounded _ = Unit {0}
