@@ -14,10 +14,10 @@ use Rattle.cli_calls.specs.Words.{Text}
 use Rattle.cli_calls.proofs.Sound.{Sound, AllSound, of_image_run, of_objects, IfSound, IsSomething, if_none, if_map, something_comes}
 use Rattle.cli_calls.specs.CommandNames.{command_of}
 use Rattle.lab_cli.specs.CommandLine.{lab_commands}
-use Rattle.lab_cli.specs.ReleasedCommand.{judged_under, released_of}
+use Rattle.lab_cli.specs.ReleasedCommand.{judged_under, read_released}
 use Rattle.lab_cli.specs.StepsCommand.{steps_outcome}
-use Rattle.lab_cli.specs.SweepCommand.{pulses_of, sweep_answer, sweep_command, sweep_of, sweep_status}
-use Rattle.lab_cli.specs.TermsCommand.{offer_of}
+use Rattle.lab_cli.specs.SweepCommand.{pulses_of, sweep_answer, sweep_command, read_sweep, sweep_status}
+use Rattle.lab_cli.specs.TermsCommand.{read_offer}
 use Rattle.lab_cli.proofs.UnderTerms.{of_judged}
 
 sound_sweep : (first second : Text) (pulses : Pulses) → Sound (sweep_command first second pulses)
@@ -44,13 +44,13 @@ no_row_differs ended pulses first second took cut told none h refused =
     let clash : status.Done ≡ status.CheckNo = ap sweep_status (sym none) ∙ differs.0 in
     cc
 
-of_released : (vs : List Text) → IfSound (released_of vs)
+of_released : (vs : List Text) → IfSound (read_released vs)
 of_released = of_judged judged_under (λ terms owner text arms e. cc)
 
-of_offer : (vs : List Text) → IfSound (offer_of vs)
+of_offer : (vs : List Text) → IfSound (read_offer vs)
 of_offer = of_judged offers (λ terms owner text arms e. cc)
 
-of_sweep : (vs : List Text) → IfSound (sweep_of vs)
+of_sweep : (vs : List Text) → IfSound (read_sweep vs)
 of_sweep (first ∷ second ∷ line ∷ from ∷ to ∷ cycles ∷ []) = if_map (sweep_command first second) (pulses_of line from to cycles) (sound_sweep first second)
 of_sweep _ = if_none
 

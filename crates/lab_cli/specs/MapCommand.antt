@@ -6,5 +6,5 @@ use Rattle.cli_calls.specs.Words.{Text}
 use Rattle.link_map.specs.Map.{map_text}
 
 -- the map, or the refusal of linking
-abbrev pub map_of : List Text → Option Command
-map_of values = read_objects map_text values
+abbrev pub read_map : List Text → Option Command
+read_map values = read_objects map_text values

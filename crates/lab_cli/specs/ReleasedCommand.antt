@@ -11,5 +11,5 @@ judged_under terms owner text arms = judges (told_by terms) owner text arms
 abbrev pub released_command : Text → ℕ → Text → Option Text → Command
 released_command name id terms arms = judged_command judged_under name id terms arms
 
-abbrev pub released_of : List Text → Option Command
-released_of words = judged_of judged_under words
+abbrev pub read_released : List Text → Option Command
+read_released words = judged_of judged_under words

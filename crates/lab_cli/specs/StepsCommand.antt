@@ -14,5 +14,5 @@ steps_answer value entries cycles = record { text = steps_text value entries cyc
 abbrev pub steps_outcome : Image → List Entry → ℕ → Outcome
 steps_outcome value entries cycles = gives (steps_answer value entries cycles)
 
-abbrev pub steps_of : List Text → Option Command
-steps_of values = read_image_run steps_outcome values
+abbrev pub read_steps : List Text → Option Command
+read_steps values = read_image_run steps_outcome values

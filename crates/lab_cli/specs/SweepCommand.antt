@@ -35,6 +35,6 @@ pulses_with _ _ _ _ = None
 abbrev pub pulses_of : Text → Text → Text → Text → Option Pulses
 pulses_of line from to cycles = pulses_with (read_decimal MAX_LINE line) (read_decimal MAX_CYCLE from) (read_decimal MAX_CYCLE to) (read_cycles cycles)
 
-abbrev pub sweep_of : List Text → Option Command
-sweep_of (first ∷ second ∷ line ∷ from ∷ to ∷ cycles ∷ []) = option_map (sweep_command first second) (pulses_of line from to cycles)
-sweep_of _ = None
+abbrev pub read_sweep : List Text → Option Command
+read_sweep (first ∷ second ∷ line ∷ from ∷ to ∷ cycles ∷ []) = option_map (sweep_command first second) (pulses_of line from to cycles)
+read_sweep _ = None

@@ -7,5 +7,5 @@ use Rattle.lab_cli.specs.UnderTerms.{judged_command, judged_of}
 abbrev pub offer_command : Text → ℕ → Text → Option Text → Command
 offer_command name id terms arms = judged_command offers name id terms arms
 
-abbrev pub offer_of : List Text → Option Command
-offer_of words = judged_of offers words
+abbrev pub read_offer : List Text → Option Command
+read_offer words = judged_of offers words

@@ -10,7 +10,7 @@ ghost use Rattle.cli_files.specs.Files.{Holds, need, terms_file, the_terms};
 ghost use Rattle.cli_files.specs.NameText.{name_text};
 ghost use Rattle.cli_calls.specs.Offers.{told_by};
 ghost use Rattle.cli_calls.specs.Words.{texts, values_within};
-ghost use Rattle.lab_cli.specs.ReleasedCommand.{released_of};
+ghost use Rattle.lab_cli.specs.ReleasedCommand.{read_released};
 ghost use Rattle.lab_cli.specs.UnderTerms.{arms_needs, told_needs};
 ghost use Rattle.lab_cli.specs.internal.ReleasedCommand.{AreArmsOf, released_asked};
 
@@ -37,7 +37,7 @@ pub fn read<'a>(
     words: &'a [String],
 ) -> Result<Option<ReleasedCommand<'a>>, AllocError>
     ensures { IfOk result (λ o. option_map released_asked o ≡
-        option_and_then released_of (values_within 4 4 (drop 1 (texts words.entry.now)))) }
+        option_and_then read_released (values_within 4 4 (drop 1 (texts words.entry.now)))) }
 {
     match values_of(alloc, "released", words, 4, 4)? {
         Some(values) => Ok(command_in(values.as_slice())),
@@ -46,7 +46,7 @@ pub fn read<'a>(
 }
 
 fn command_in<'a>(values: &[&'a str]) -> Option<ReleasedCommand<'a>>
-    ensures { option_map released_asked result ≡ released_of (map (λ w. w.now) values.now) }
+    ensures { option_map released_asked result ≡ read_released (map (λ w. w.now) values.now) }
 {
     if values.len() != 4 {
         return None;

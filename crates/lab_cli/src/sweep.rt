@@ -2,7 +2,7 @@
 ghost use Rattle.std.specs.Prelude.{◌≡◌, IfSome};
 ghost use Rattle.sm_io.specs.Sink.{Took, CutOff};
 ghost use Rattle.cli_calls.specs.Runs.{EndsAs};
-ghost use Rattle.lab_cli.specs.SweepCommand.{pulses_of, sweep_command, sweep_of, sweep_status};
+ghost use Rattle.lab_cli.specs.SweepCommand.{pulses_of, sweep_command, read_sweep, sweep_status};
 ghost use Rattle.lab_cli.specs.internal.SweepCommand.{IsWithin};
 
 use cli_calls::{Answering, Reading, read_cycles};
@@ -29,7 +29,7 @@ pub struct SweepCommand<'a> {
 }
 
 impl<'a> Reading<'a> for SweepCommand<'a> {
-    ghost asks = { sweep_of };
+    ghost asks = { read_sweep };
 
     fn read_values(_alloc: Global, values: &[&'a str]) -> Result<Option<Self>, AllocError> {
         match values {

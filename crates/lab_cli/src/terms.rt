@@ -8,7 +8,7 @@ ghost use Rattle.cli_calls.specs.Command.{IsOffer, offer_answer};
 ghost use Rattle.cli_calls.specs.Offers as spec;
 ghost use Rattle.cli_calls.specs.Runs.{EndsAs};
 ghost use Rattle.cli_calls.specs.Words.{texts, values_within};
-ghost use Rattle.lab_cli.specs.TermsCommand.{offer_of};
+ghost use Rattle.lab_cli.specs.TermsCommand.{read_offer};
 ghost use Rattle.lab_cli.specs.internal.TermsCommand.{offer_asked};
 
 use crate::public_words::{not_data, put_not_data};
@@ -33,7 +33,7 @@ pub struct TermsCommand<'a> {
 /// The arguments that the words after the first are.
 pub fn read<'a>(alloc: Global, words: &'a [String]) -> Result<Option<TermsCommand<'a>>, AllocError>
     ensures { IfOk result (λ o. option_map offer_asked o ≡
-        option_and_then offer_of (values_within 4 4 (drop 1 (texts words.entry.now)))) }
+        option_and_then read_offer (values_within 4 4 (drop 1 (texts words.entry.now)))) }
 {
     match values_of(alloc, "terms", words, 4, 4)? {
         Some(values) => Ok(command_in(values.as_slice())),
@@ -42,7 +42,7 @@ pub fn read<'a>(alloc: Global, words: &'a [String]) -> Result<Option<TermsComman
 }
 
 fn command_in<'a>(values: &[&'a str]) -> Option<TermsCommand<'a>>
-    ensures { option_map offer_asked result ≡ offer_of (map (λ w. w.now) values.now) }
+    ensures { option_map offer_asked result ≡ read_offer (map (λ w. w.now) values.now) }
 {
     if values.len() != 4 {
         return None;
