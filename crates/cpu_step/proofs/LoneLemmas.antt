@@ -3,7 +3,7 @@ use Rattle.std.proofs.Common.{◌≡◌, ◌<◌, ◌≤◌, ℕ, zero, suc, ◌
 use Rattle.sm_words.specs.Words.{reg}
 use Rattle.insn_decode.specs.declared.insn.Insn.{Insn}
 use Rattle.mod_layout.specs.Table.{holds}
-use Rattle.cpu_step.specs.Lone.{Job, Lone, Outcome, Exit, Closing, Broken, Running, Doing, Waits, Closes, Leaves, Breaks, Does, doing_by, doing, next_insn, later, at_once, in_time, outcome, lone_step_by, lone_step, lone_after}
+use Rattle.cpu_step.specs.Lone.{Job, Lone, CallEnd, Exit, Closing, Broken, Running, Doing, Waits, Closes, Leaves, Breaks, Does, doing_by, doing, next_insn, later, at_once, in_time, outcome, lone_step_by, lone_step, lone_after}
 use Rattle.cpu_step.specs.LoneLaws.{GoesOn, Reaches, HasLeft, HasClosed, IsBroken, Ends, leaves, closes, breaks, runs, OneEnd}
 
 -- the cycles of a step and those after it
@@ -17,25 +17,25 @@ after_more j l c (suc d) = ap (lone_after j l) (let e : c + suc d ≡ suc (c + d
 
 -- ---- an outcome that comes so many cycles later
 
-abbrev pub delayed : ℕ → Outcome → Outcome
+abbrev pub delayed : ℕ → CallEnd → CallEnd
 delayed k (Exit core left c) = Exit core left (c + k)
 delayed k (Closing core left c) = Closing core left (c + k)
 delayed k (Broken left c) = Broken left (c + k)
 delayed k Running = Running
 
-pub delayed_none : (o : Outcome) → o ≡ delayed 0 o
+pub delayed_none : (o : CallEnd) → o ≡ delayed 0 o
 delayed_none (Exit core left c) = ap (Exit core left) (let e : c ≡ c + 0 = omega arith in e)
 delayed_none (Closing core left c) = ap (Closing core left) (let e : c ≡ c + 0 = omega arith in e)
 delayed_none (Broken left c) = ap (Broken left) (let e : c ≡ c + 0 = omega arith in e)
 delayed_none Running = refl
 
-pub delayed_more : (a b : ℕ) (o : Outcome) → delayed a (delayed b o) ≡ delayed (a + b) o
+pub delayed_more : (a b : ℕ) (o : CallEnd) → delayed a (delayed b o) ≡ delayed (a + b) o
 delayed_more a b (Exit core left c) = ap (Exit core left) (let e : c + b + a ≡ c + (a + b) = omega arith in e)
 delayed_more a b (Closing core left c) = ap (Closing core left) (let e : c + b + a ≡ c + (a + b) = omega arith in e)
 delayed_more a b (Broken left c) = ap (Broken left) (let e : c + b + a ≡ c + (a + b) = omega arith in e)
 delayed_more a b Running = refl
 
-pub later_is : (o : Outcome) → later o ≡ delayed 1 o
+pub later_is : (o : CallEnd) → later o ≡ delayed 1 o
 later_is (Exit core left c) = refl
 later_is _ = refl
 
@@ -95,7 +95,7 @@ module _ (j : Job) (l s : Lone) (c : ℕ) where
   reach_next : Reaches j l (suc c) s → Reaches j (lone_step j l) c s
   reach_next r = record { there = after_step j l c ∙ r.there; before = λ k h. subst (λ y. GoesOn (doing j y)) (sym (after_step j l k)) (r.before (suc k) (omega arith)) }
 
-goes_on : (d : Doing) (next : Lone → Outcome) (j : Job) (l : Lone) → GoesOn d → in_time d next j l ≡ later (next (lone_step_by d j l))
+goes_on : (d : Doing) (next : Lone → CallEnd) (j : Job) (l : Lone) → GoesOn d → in_time d next j l ≡ later (next (lone_step_by d j l))
 goes_on (Waits r) next j l g = refl
 goes_on (Does insn) next j l g = refl
 goes_on Closes next j l g = absurd g
@@ -134,7 +134,7 @@ runs_now j s not_left not_closed = by (doing j s) (told j s)
     by Leaves t = absurd (not_left t)
     by _ t = refl
 
-end_is : (j : Job) (l : Lone) (n : ℕ) {o : Outcome} → Ends j l n o → outcome j n l ≡ o
+end_is : (j : Job) (l : Lone) (n : ℕ) {o : CallEnd} → Ends j l n o → outcome j n l ≡ o
 end_is j l n (leaves c s few r h) = outcome_within j l s c n few r ∙ ap (delayed c) (left_now j s (n - c) h) ∙ ap (Exit s.core s.data_bytes) (let e : 0 + c ≡ c = omega arith in e)
 end_is j l n (closes c s few r h) = outcome_within j l s c n few r ∙ ap (delayed c) (closed_now j s (n - c) h) ∙ ap (Closing s.core s.data_bytes) (let e : 0 + c ≡ c = omega arith in e)
 end_is j l n (breaks c s few r h) =
@@ -144,7 +144,7 @@ end_is j l n (runs s r not_left not_closed) =
 
 -- ---- the outcome is an end
 
-one_later : (j : Job) (l : Lone) (n : ℕ) {o : Outcome} → GoesOn (doing j l) → Ends j (lone_step j l) n o → Ends j l (suc n) (later o)
+one_later : (j : Job) (l : Lone) (n : ℕ) {o : CallEnd} → GoesOn (doing j l) → Ends j (lone_step j l) n o → Ends j l (suc n) (later o)
 one_later j l n now (leaves c s few r h) = leaves (c + 1) s (omega arith) (subst (λ k. Reaches j l k s) (let e : suc c ≡ c + 1 = omega arith in e) (reach_later j l s c now r)) h
 one_later j l n now (closes c s few r h) = closes (c + 1) s (omega arith) (subst (λ k. Reaches j l k s) (let e : suc c ≡ c + 1 = omega arith in e) (reach_later j l s c now r)) h
 one_later j l n now (breaks c s few r h) = breaks (c + 1) s (omega arith) (subst (λ k. Reaches j l k s) (let e : suc c ≡ c + 1 = omega arith in e) (reach_later j l s c now r)) h

@@ -111,14 +111,14 @@ lone_does j insn l =
     record { core = e.core; data_bytes = lone_writes j.owner l.data_bytes (writes_of xs) e.stored; rest = e.cycles - 1; closing = e.closing }
 
 -- how a call ends, with the core, the data that it leaves, and its cycles
-pub data Outcome : Type 0 where
-  Exit : (core : List ℕ) (left : List ℕ) (cycles : ℕ) → Outcome
-  Closing : (core : List ℕ) (left : List ℕ) (cycles : ℕ) → Outcome
-  Broken : (left : List ℕ) (cycles : ℕ) → Outcome
-  Running : Outcome
+pub data CallEnd : Type 0 where
+  Exit : (core : List ℕ) (left : List ℕ) (cycles : ℕ) → CallEnd
+  Closing : (core : List ℕ) (left : List ℕ) (cycles : ℕ) → CallEnd
+  Broken : (left : List ℕ) (cycles : ℕ) → CallEnd
+  Running : CallEnd
 
 -- what comes a cycle later
-abbrev pub later : Outcome → Outcome
+abbrev pub later : CallEnd → CallEnd
 later (Exit core left c) = Exit core left (c + 1)
 later (Closing core left c) = Closing core left (c + 1)
 later (Broken left c) = Broken left (c + 1)
@@ -160,13 +160,13 @@ lone_after j l zero = l
 lone_after j l (suc c) = lone_step j (lone_after j l c)
 
 -- with no cycle left
-abbrev pub at_once : Doing → Lone → Outcome
+abbrev pub at_once : Doing → Lone → CallEnd
 at_once Closes l = Closing l.core l.data_bytes 0
 at_once Leaves l = Exit l.core l.data_bytes 0
 at_once _ l = Running
 
 -- with a cycle left, where next is what comes after it
-abbrev pub in_time : Doing → (Lone → Outcome) → Job → Lone → Outcome
+abbrev pub in_time : Doing → (Lone → CallEnd) → Job → Lone → CallEnd
 in_time Closes next j l = Closing l.core l.data_bytes 0
 in_time Leaves next j l = Exit l.core l.data_bytes 0
 in_time Breaks next j l = Broken l.data_bytes 0
@@ -174,7 +174,7 @@ in_time (Waits r) next j l = later (next (record l { rest = r }))
 in_time (Does insn) next j l = later (next (lone_does j insn l))
 
 -- the first end that is reached within n cycles
-abbrev pub outcome : Job → ℕ → Lone → Outcome
+abbrev pub outcome : Job → ℕ → Lone → CallEnd
 outcome j zero l = at_once (doing j l) l
 outcome j (suc n) l = in_time (doing j l) (outcome j n) j l
 
@@ -188,7 +188,7 @@ blank [] core = core
 blank (r ∷ rs) core = slice_set (blank rs core) r 0
 
 -- two ends that are alike, where the cores may differ in the answers; where they do not differ at all, rest must hold of the data left
-abbrev pub alike_but : List ℕ → (List ℕ → List ℕ → Type 0) → Outcome → Outcome → Type 0
+abbrev pub alike_but : List ℕ → (List ℕ → List ℕ → Type 0) → CallEnd → CallEnd → Type 0
 alike_but answers rest Running Running = Unit {0}
 alike_but answers rest (Closing c d k) (Closing c' d' k') = (blank answers c ≡ blank answers c') × (k ≡ k')
 alike_but answers rest (Exit c d k) (Exit c' d' k') = (blank answers c ≡ blank answers c') × (k ≡ k') × (c ≡ c' → rest d d')

@@ -3,7 +3,7 @@ use Rattle.std.specs.Prelude.{◌≡◌, ◌<◌, ◌≤◌, ◌↔◌, ℕ, tru
 use Rattle.sm_words.specs.Words.{reg}
 use Rattle.sm_words.specs.declared.registers.TheConstants.{PC}
 use Rattle.mod_layout.specs.Table.{holds}
-use Rattle.cpu_step.specs.Lone.{Job, Lone, Outcome, Exit, Closing, Broken, Running, Doing, Waits, Does, doing, next_insn, lone_after, outcome}
+use Rattle.cpu_step.specs.Lone.{Job, Lone, CallEnd, Exit, Closing, Broken, Running, Doing, Waits, Does, doing, next_insn, lone_after, outcome}
 
 -- the module waits out an instruction or does one
 abbrev pub GoesOn : Doing → Type 0
@@ -36,7 +36,7 @@ pub record IsBroken (j : Job) (s : Lone) : Type 0 where
 
 -- the end of a call within n cycles: the first that it reaches, where one in the n-th still counts, and where an instruction that
 -- it may not do counts while a cycle is left for it
-pub data Ends (j : Job) (l : Lone) (n : ℕ) : Outcome → Type 0 where
+pub data Ends (j : Job) (l : Lone) (n : ℕ) : CallEnd → Type 0 where
   leaves : (c : ℕ) (s : Lone) → c ≤ n → Reaches j l c s → HasLeft j s → Ends j l n (Exit s.core s.data_bytes c)
   closes : (c : ℕ) (s : Lone) → c ≤ n → Reaches j l c s → HasClosed s → Ends j l n (Closing s.core s.data_bytes c)
   breaks : (c : ℕ) (s : Lone) → c < n → Reaches j l c s → IsBroken j s → Ends j l n (Broken s.data_bytes c)
@@ -44,4 +44,4 @@ pub data Ends (j : Job) (l : Lone) (n : ℕ) : Outcome → Type 0 where
 
 -- a call has one end, and it is the outcome
 abbrev pub OneEnd : Type 0
-OneEnd = (j : Job) (l : Lone) (n : ℕ) (o : Outcome) → Ends j l n o ↔ (outcome j n l ≡ o)
+OneEnd = (j : Job) (l : Lone) (n : ℕ) (o : CallEnd) → Ends j l n o ↔ (outcome j n l ≡ o)

@@ -6,7 +6,7 @@ use Rattle.sm_words.specs.Words.{IsCore}
 use Rattle.mod_layout.specs.declared.Module.{Module}
 use Rattle.pc_access.specs.Rights.{is_id}
 use Rattle.pc_access.specs.declared.Stop.{Stop}
-use Rattle.cpu_step.specs.Lone.{Lone, Doing, Closes, Leaves, Breaks, doing, lone_after, outcome, job_of, Job, Outcome, Broken, Running, later, Waits, Does, lone_does, lone_step, lone_step_by, in_time, at_once}
+use Rattle.cpu_step.specs.Lone.{Lone, Doing, Closes, Leaves, Breaks, doing, lone_after, outcome, job_of, Job, CallEnd, Broken, Running, later, Waits, Does, lone_does, lone_step, lone_step_by, in_time, at_once}
 use Rattle.tracer.specs.declared.Event.{Event}
 use Rattle.written_machine.specs.Cycle.{Step, told, unsettled, due, ticked, settle, turn, arrive_inside, sent_event, counted_by, move, cycle, after_cycles}
 use Rattle.written_machine.specs.Peers.{section}
@@ -146,7 +146,7 @@ IsEnd _ = ⊥
 
 -- ---- a module by itself that is open for c cycles and then ends
 module _ (j : Job) where
-  takes_later : (c : ℕ) (o : Outcome) → Takes c o → Takes (suc c) (later o)
+  takes_later : (c : ℕ) (o : CallEnd) → Takes c o → Takes (suc c) (later o)
   takes_later c (Broken d k) h = h
   takes_later c Running h = h
   takes_later c _ h = omega arith

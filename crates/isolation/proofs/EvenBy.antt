@@ -1,7 +1,7 @@
 -- Even calls with a bound for each call, which the proofs follow, and that one bound for all says as much.
 use Rattle.std.proofs.Common.{◌≡◌, ℕ, List, [], ◌∷◌, false, zero, suc, ◌+◌, ◌≤◌, max, refl, sym, ap, ◌∙◌, subst, arith, Bool, true, nat_lt, cond}
 use Rattle.mod_layout.specs.declared.Module.{Module}
-use Rattle.cpu_step.specs.Lone.{starts, Lone, outcome, alike_but, job_of, Job, Entrance, Outcome, Exit, Closing, Broken, Running, later, Doing, Waits, Closes, Leaves, Breaks, Does, doing, lone_does, at_once, in_time, EvenBut, IsEntry, AlwaysEvenBut}
+use Rattle.cpu_step.specs.Lone.{starts, Lone, outcome, alike_but, job_of, Job, Entrance, CallEnd, Exit, Closing, Broken, Running, later, Doing, Waits, Closes, Leaves, Breaks, Does, doing, lone_does, at_once, in_time, EvenBut, IsEntry, AlwaysEvenBut}
 use Rattle.isolation.proofs.Each.{Each}
 use Rattle.std.proofs.lemmas.Bool.Decides.{nat_tests}
 use Rattle.std.proofs.lemmas.List.Elements.{All-nil, All-cons}
@@ -31,7 +31,7 @@ abbrev pub AlwaysEvenBy : List ℕ → List ℕ → Module → List ℕ → List
 AlwaysEvenBy answers key m text d1 d2 = (es : List Call_of) → Each (IsCall m) es → EvenBy answers key m text es d1 d2
 
 -- what of an outcome is there within n cycles
-abbrev pub cut : ℕ → Outcome → Outcome
+abbrev pub cut : ℕ → CallEnd → CallEnd
 cut n (Exit c d k) = cond (nat_lt k (suc n)) (Exit c d k) Running
 cut n (Closing c d k) = cond (nat_lt k (suc n)) (Closing c d k) Running
 cut n (Broken d k) = cond (nat_lt k n) (Broken d k) Running
@@ -46,17 +46,17 @@ lt_none k = grind (arith, nat_tests)
 zero_lt : (n : ℕ) → nat_lt 0 (suc n) ≡ true
 zero_lt n = grind (arith, nat_tests)
 
-cut_if : (b : Bool) (o : Outcome) → cond b (later o) Running ≡ later (cond b o Running)
+cut_if : (b : Bool) (o : CallEnd) → cond b (later o) Running ≡ later (cond b o Running)
 cut_if true o = refl
 cut_if false o = refl
 
-cut_later : (n : ℕ) (o : Outcome) → cut (suc n) (later o) ≡ later (cut n o)
+cut_later : (n : ℕ) (o : CallEnd) → cut (suc n) (later o) ≡ later (cut n o)
 cut_later n (Exit c d k) = ap (λ b. cond b (Exit c d (k + 1)) Running) (lt_suc k (suc n)) ∙ cut_if (nat_lt k (suc n)) (Exit c d k)
 cut_later n (Closing c d k) = ap (λ b. cond b (Closing c d (k + 1)) Running) (lt_suc k (suc n)) ∙ cut_if (nat_lt k (suc n)) (Closing c d k)
 cut_later n (Broken d k) = ap (λ b. cond b (Broken d (k + 1)) Running) (lt_suc k n) ∙ cut_if (nat_lt k n) (Broken d k)
 cut_later n Running = refl
 
-cut_none : (o : Outcome) → cut 0 (later o) ≡ Running
+cut_none : (o : CallEnd) → cut 0 (later o) ≡ Running
 cut_none (Exit c d k) = ap (λ b. cond b (Exit c d (k + 1)) Running) (lt_suc k 0 ∙ lt_none k)
 cut_none (Closing c d k) = ap (λ b. cond b (Closing c d (k + 1)) Running) (lt_suc k 0 ∙ lt_none k)
 cut_none (Broken d k) = ap (λ b. cond b (Broken d (k + 1)) Running) (lt_none (k + 1))
@@ -67,12 +67,12 @@ module _ (j : Job) where
   once_cut Closes l = refl
   once_cut _ l = refl
 
-  zero_cut : (x : Doing) (f : Lone → Outcome) (l : Lone) → at_once x l ≡ cut 0 (in_time x f j l)
+  zero_cut : (x : Doing) (f : Lone → CallEnd) (l : Lone) → at_once x l ≡ cut 0 (in_time x f j l)
   zero_cut (Waits r) f l = sym (cut_none (f (record l { rest = r })))
   zero_cut (Does i) f l = sym (cut_none (f (lone_does j i l)))
   zero_cut _ f l = refl
 
-  suc_cut : (x : Doing) (n : ℕ) (f g : Lone → Outcome) (l : Lone) → ((l' : Lone) → f l' ≡ cut n (g l')) → in_time x f j l ≡ cut (suc n) (in_time x g j l)
+  suc_cut : (x : Doing) (n : ℕ) (f g : Lone → CallEnd) (l : Lone) → ((l' : Lone) → f l' ≡ cut n (g l')) → in_time x f j l ≡ cut (suc n) (in_time x g j l)
   suc_cut Closes n f g l h = sym (ap (λ b. cond b (Closing l.core l.data_bytes 0) Running) (zero_lt (suc n)))
   suc_cut Leaves n f g l h = sym (ap (λ b. cond b (Exit l.core l.data_bytes 0) Running) (zero_lt (suc n)))
   suc_cut Breaks n f g l h = sym (ap (λ b. cond b (Broken l.data_bytes 0) Running) (zero_lt n))
@@ -86,11 +86,11 @@ module _ (j : Job) where
   outcome_cut (suc n) (suc m) l le = suc_cut (doing j l) n (outcome j n) (outcome j m) l (λ l'. outcome_cut n m l' (omega arith))
 
 module _ (answers : List ℕ) where
-  alike_if : (P : List ℕ → List ℕ → Type 0) (b : Bool) (o p : Outcome) → alike_but answers P o p → alike_but answers P (cond b o Running) (cond b p Running)
+  alike_if : (P : List ℕ → List ℕ → Type 0) (b : Bool) (o p : CallEnd) → alike_but answers P o p → alike_but answers P (cond b o Running) (cond b p Running)
   alike_if P true o p h = h
   alike_if P false o p h = tt
 
-  alike_cut : (P Q : List ℕ → List ℕ → Type 0) (n : ℕ) (o p : Outcome) → ((d d' : List ℕ) → P d d' → Q d d') → alike_but answers P o p → alike_but answers Q (cut n o) (cut n p)
+  alike_cut : (P Q : List ℕ → List ℕ → Type 0) (n : ℕ) (o p : CallEnd) → ((d d' : List ℕ) → P d d' → Q d d') → alike_but answers P o p → alike_but answers Q (cut n o) (cut n p)
   alike_cut P Q n Running Running f h = tt
   alike_cut P Q n (Closing c d k) (Closing c' d' k') f h = subst (λ i. alike_but answers Q (cut n (Closing c d k)) (cond (nat_lt i (suc n)) (Closing c' d' k') Running)) h.1 (alike_if Q (nat_lt k (suc n)) (Closing c d k) (Closing c' d' k') h)
   alike_cut P Q n (Exit c d k) (Exit c' d' k') f h = subst (λ i. alike_but answers Q (cut n (Exit c d k)) (cond (nat_lt i (suc n)) (Exit c' d' k') Running)) h.1 (alike_if Q (nat_lt k (suc n)) (Exit c d k) (Exit c' d' k') (h.0, h.1, λ same. f d d' (h.2 same)))

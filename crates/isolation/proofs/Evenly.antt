@@ -1,7 +1,7 @@
 -- Two calls that are even go on together.
 use Rattle.std.proofs.Common.{◌≡◌, ℕ, zero, suc, List, [], arith}
 use Rattle.mod_layout.specs.declared.Module.{Module}
-use Rattle.cpu_step.specs.Lone.{Job, Lone, Outcome, Exit, Closing, Broken, Running, later, Doing, Waits, Closes, Leaves, Breaks, Does, doing, lone_does, at_once, in_time, outcome, blank, alike_but}
+use Rattle.cpu_step.specs.Lone.{Job, Lone, CallEnd, Exit, Closing, Broken, Running, later, Doing, Waits, Closes, Leaves, Breaks, Does, doing, lone_does, at_once, in_time, outcome, blank, alike_but}
 use Rattle.isolation.proofs.Each.{Each}
 use Rattle.isolation.proofs.EvenBy.{Call_of, EvenBy, IsCall, AlwaysEvenBy}
 
@@ -19,7 +19,7 @@ Together answers key own text j (Does i) (Waits r) la lb = Evenly answers key ow
 Together answers key own text j (Does i) (Does i') la lb = Evenly answers key own text j (lone_does j i la) (lone_does j i' lb)
 Together answers key own text j _ _ la lb = ⊥
 
-later_alike : (answers : List ℕ) (P : List ℕ → List ℕ → Type 0) (o p : Outcome) → alike_but answers P (later o) (later p) → alike_but answers P o p
+later_alike : (answers : List ℕ) (P : List ℕ → List ℕ → Type 0) (o p : CallEnd) → alike_but answers P (later o) (later p) → alike_but answers P o p
 later_alike answers P Running Running h = tt
 later_alike answers P (Closing c d k) (Closing c' d' k') h = (h.0, omega (arith, h.1))
 later_alike answers P (Exit c d k) (Exit c' d' k') h = (h.0, omega (arith, h.1), h.2)
@@ -35,7 +35,7 @@ module _ (answers key : List ℕ) (own : Module) (text : List ℕ) (j : Job) (la
   go_on : (x y : Lone) → ((n : ℕ) (es : List Call_of) → Each (IsCall own) es → alike_but answers (EvenBy answers key own text es) (later (outcome j n x)) (later (outcome j n y))) → Evenly answers key own text j x y
   go_on x y h = record { always = λ n es v. later_alike answers (EvenBy answers key own text es) (outcome j n x) (outcome j n y) (h n es v) }
 
-  broken_right : (o : Outcome) → alike_but answers (EvenBy answers key own text []) (later o) (Broken lb.data_bytes 0) → ⊥
+  broken_right : (o : CallEnd) → alike_but answers (EvenBy answers key own text []) (later o) (Broken lb.data_bytes 0) → ⊥
   broken_right Running h = h
   broken_right _ h = h
 

@@ -6,7 +6,7 @@ use Rattle.mod_layout.specs.declared.Module.{Module}
 use Rattle.pc_access.specs.Rights.{is_id, is_held}
 use Rattle.pc_access.specs.declared.Stop.{Stop}
 use Rattle.reg_backup.specs.declared.backup.Backup.{Backup}
-use Rattle.cpu_step.specs.Lone.{Job, Lone, Doing, Closes, Leaves, Breaks, doing, lone_step_by, lone_step, job_of, Outcome, Exit, Closing, Broken, Running, later, Waits, Does, lone_does, lone_after, in_time, outcome, next_insn, doing_by}
+use Rattle.cpu_step.specs.Lone.{Job, Lone, Doing, Closes, Leaves, Breaks, doing, lone_step_by, lone_step, job_of, CallEnd, Exit, Closing, Broken, Running, later, Waits, Does, lone_does, lone_after, in_time, outcome, next_insn, doing_by}
 use Rattle.tracer.specs.declared.Event.{Event}
 use Rattle.written_machine.specs.Cycle.{Step, told, due, ticked, settle, turn, sent_event, counted_by, move, pc_of, act, cycle, after_cycles}
 use Rattle.written_machine.specs.Peers.{section}
@@ -173,15 +173,15 @@ module _ (m : ℕ) (own : Module) (key text : List ℕ) (from : ℕ) where
       subst (λ c. Follows (move s).state (stepped c la)) (sym w) (move_follows s la f fine n (λ h. nb (w ∙ h)))
 
 module _ (j : Job) where
-  not_later : (o : Outcome) → NotBroken (later o) → NotBroken o
+  not_later : (o : CallEnd) → NotBroken (later o) → NotBroken o
   not_later (Broken d k) h = h
   not_later _ h = tt
 
-  unbroken_if : (b : Bool) (o : Outcome) → NotBroken o → NotBroken (cond b o Running)
+  unbroken_if : (b : Bool) (o : CallEnd) → NotBroken o → NotBroken (cond b o Running)
   unbroken_if true o h = h
   unbroken_if false o h = tt
 
-  cut_unbroken : (n : ℕ) (o : Outcome) → NotBroken o → NotBroken (cut n o)
+  cut_unbroken : (n : ℕ) (o : CallEnd) → NotBroken o → NotBroken (cut n o)
   cut_unbroken n (Exit c d k) h = unbroken_if (nat_lt k (suc n)) (Exit c d k) h
   cut_unbroken n (Closing c d k) h = unbroken_if (nat_lt k (suc n)) (Closing c d k) h
   cut_unbroken n (Broken d k) h = absurd h

@@ -14,7 +14,7 @@ use Rattle.reg_backup.specs.declared.backup.Phase.{Phase}
 use Rattle.reg_backup.specs.declared.backup.Phase.TheVariants.{Run, Pad}
 use Rattle.reg_backup.specs.declared.frames.Frame.{Frame}
 use Rattle.reg_backup.specs.declared.frames.Frame.TheVariants.{Plain, Module as Held}
-use Rattle.cpu_step.specs.Lone.{Job, Lone, Outcome, Exit, Closing, Broken, Running, job_of, starts}
+use Rattle.cpu_step.specs.Lone.{Job, Lone, CallEnd, Exit, Closing, Broken, Running, job_of, starts}
 use Rattle.tracer.specs.declared.Event.{Event}
 use Rattle.tracer.specs.declared.Event.TheVariants.{Resume as Resumed, Close as Closed, Handler as Handling, Leave as Left, Hide as Hid, Enter as Entered, Stop as Stopped}
 use Rattle.written_machine.specs.Cycle.{ticked, settle, due, cycle, after_cycles}
@@ -100,12 +100,12 @@ worked m s zero = 0
 worked m s (suc n) = worked m s n + (if works m (after_cycles s n) then 1 else 0)
 
 -- a call by itself that is not broken
-abbrev pub NotBroken : Outcome → Type 0
+abbrev pub NotBroken : CallEnd → Type 0
 NotBroken (Broken left c) = ⊥
 NotBroken _ = Unit {0}
 
 -- a call by itself that ends after c cycles
-abbrev pub Takes : ℕ → Outcome → Type 0
+abbrev pub Takes : ℕ → CallEnd → Type 0
 Takes c (Exit core left k) = k ≡ c
 Takes c (Closing core left k) = k ≡ c
 Takes c (Broken left k) = ⊥

@@ -17,7 +17,7 @@ use Rattle.cycle_table.specs.Cycles.{cycles_of}
 use Rattle.mod_layout.specs.Table.{holds}
 use Rattle.cpu_step.specs.Asked.{asks, effect}
 use Rattle.cpu_step.specs.Effect.{does_freely, confined, does}
-use Rattle.cpu_step.specs.Lone.{Job, Lone, IsEntry, Outcome, Exit, Closing, Running, later, Does, Leaves, doing_by, doing, next_insn, lone_does, at_once, in_time, outcome, alike_but, job_of, EvenBut, AlwaysEven}
+use Rattle.cpu_step.specs.Lone.{Job, Lone, IsEntry, CallEnd, Exit, Closing, Running, later, Does, Leaves, doing_by, doing, next_insn, lone_does, at_once, in_time, outcome, alike_but, job_of, EvenBut, AlwaysEven}
 use Rattle.cpu_step.specs.Plan.{plan}
 use Rattle.written_machine.specs.Peers.{section}
 use Rattle.peer_rows.specs.Rows.{row_module, memory_of, row_image, returning, ReturningPeers}
@@ -64,7 +64,7 @@ places core s = by (holds (row_module 0x0302).text (reg core PC)) refl
 
 -- ---- two calls
 
-later_alike : (R : List ℕ → List ℕ → Type 0) (o p : Outcome) → alike_but [] R o p → alike_but [] R (later o) (later p)
+later_alike : (R : List ℕ → List ℕ → Type 0) (o p : CallEnd) → alike_but [] R o p → alike_but [] R (later o) (later p)
 later_alike R Running Running h = tt
 later_alike R (Closing c d k) (Closing c' d' k') h = (h.0, ap (λ i. i + 1) h.1)
 later_alike R (Exit c d k) (Exit c' d' k') h = (h.0, ap (λ i. i + 1) h.1, h.2)
@@ -91,7 +91,7 @@ module _ (key : List ℕ) (caller : ℕ) where
       ap (λ x. in_time x (outcome job n) job (stands core d 0)) (begins core d start) ∙ ap (λ l. later (outcome job n l)) (does_back core d)
 
   module _ (R : List ℕ → List ℕ → Type 0) (d e : List ℕ) (r : R d e) where
-    both : (x y o p : Outcome) → x ≡ o → y ≡ p → alike_but [] R o p → alike_but [] R x y
+    both : (x y o p : CallEnd) → x ≡ o → y ≡ p → alike_but [] R o p → alike_but [] R x y
     both x y o p f g h = subst (λ z. alike_but [] R z y) (sym f) (subst (λ z. alike_but [] R o z) (sym g) h)
 
     leaves : (n : ℕ) (core : List ℕ) → holds (row_module 0x0302).text (reg core PC) ≡ false → alike_but [] R (outcome job n (stands core d 0)) (outcome job n (stands core e 0))

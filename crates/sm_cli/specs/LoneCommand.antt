@@ -32,7 +32,7 @@ abbrev pub entrance_of : Module → List ℕ → lone.Entrance
 entrance_of owner registers = record { core = put registers PC owner.text.start; caller = no_caller }
 
 -- how the call of an image's module ends within so many cycles
-abbrev pub lone_end : Image → Module → List ℕ → ℕ → lone.Outcome
+abbrev pub lone_end : Image → Module → List ℕ → ℕ → lone.CallEnd
 lone_end value owner registers limit =
     lone.outcome (lone.job_of value.node_key owner (section owner.text value.memory) no_caller) limit (lone.starts (entrance_of owner registers) (section owner.ram value.memory))
 

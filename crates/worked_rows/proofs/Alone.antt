@@ -7,7 +7,7 @@ use Rattle.mod_layout.specs.Table.{place_of}
 use Rattle.attest.specs.Units.{unit_plan, unit_effect}
 use Rattle.cpu_step.specs.Asked.{asks, effect}
 use Rattle.cpu_step.specs.Effect.{does_freely, confined, does}
-use Rattle.cpu_step.specs.Lone.{Outcome, Exit, Closing, Broken, Running, outcome, job_of, starts, next_insn, lone_does, doing}
+use Rattle.cpu_step.specs.Lone.{CallEnd, Exit, Closing, Broken, Running, outcome, job_of, starts, next_insn, lone_does, doing}
 use Rattle.cpu_step.specs.Plan.{plan}
 use Rattle.worked_rows.proofs.Images.{first_module}
 use Rattle.worked_rows.proofs.Balanced.{balanced_text}
@@ -19,7 +19,7 @@ data End : Type 0 where
   Broke : (cycles : ℕ) → End
   Runs : End
 
-abbrev end_of : Outcome → End
+abbrev end_of : CallEnd → End
 end_of (Exit core left c) = Left c core
 end_of (Closing core left c) = Shut c core
 end_of (Broken left c) = Broke c

@@ -10,7 +10,7 @@ use Rattle.lone_run.proofs.Calls.{At, at_exit, at_limit, data_limit, at_broken, 
 use Rattle.lone_run.proofs.calling.run.Goals as goal
 
 -- the answer and the data of an outcome
-told : (j : lone.Job) (start : lone.Lone) (limit : ℕ) (o : lone.Outcome) (ram : List ℕ) → lone.outcome j limit start ≡ o → data_left o (lone.lone_after j start limit).data_bytes ≡ ram →
+told : (j : lone.Job) (start : lone.Lone) (limit : ℕ) (o : lone.CallEnd) (ram : List ℕ) → lone.outcome j limit start ≡ o → data_left o (lone.lone_after j start limit).data_bytes ≡ ram →
     (call_answer o ≡ call_answer (lone.outcome j limit start)) × (ram ≡ data_left (lone.outcome j limit start) (lone.lone_after j start limit).data_bytes)
 told j start limit o ram e left = (sym (ap call_answer e), sym (ap (λ o. data_left o (lone.lone_after j start limit).data_bytes) e ∙ left))
 
