@@ -9,8 +9,8 @@ use Rattle.mod_layout.specs.declared.Module.{Module}
 use Rattle.mod_layout.specs.declared.TheConstants.{DEVICES_END}
 use Rattle.mod_layout.specs.declared.Place.{Place}
 use Rattle.mod_layout.specs.declared.Place.TheVariants.{Open, Entry, Text, Data}
-use Rattle.mod_layout.specs.Table.{Table, holds, size_of, place_in, place_of, module_of, with_module}
-use Rattle.mod_layout.specs.Tables.{Apart, IsModule, Separate, AreModules, IsTable}
+use Rattle.mod_layout.specs.Table.{Table, holds, share_byte, size_of, place_in, place_of, module_of, with_module}
+use Rattle.mod_layout.specs.Tables.{IsModule, Separate, AreModules, IsTable}
 use Rattle.mod_layout.proofs.Found.{outside, no_entry, within, elsewhere, found_first, separate_found, SeparateFrom, place_by, find_module}
 pub use Rattle.mod_layout.proofs.Found.{and_true, module_found}
 use Rattle.pc_access.specs.declared.Kind.{Kind}
@@ -61,8 +61,8 @@ text_is_no_data given id a m (y ∷ ms) are e low high =
     let here : holds y.text a ≡ true = ap (λ (x : Module). holds x.text a) k ∙ within m.text a low high in
     subst (λ (b : Bool). NoData (place_by entry b (holds y.ram a) y.id rest)) (sym here) (in_text entry (holds y.ram a) y.id rest))
     (λ k.
-    let apart : Apart y.ram m.text = (separate_found y m id ms are.1 k).ram_text in
-    let out : holds y.ram a ≡ false = outside y.ram a (elsewhere y.ram m.text a low high are.0.ram_ok.order apart) in
+    let apart : share_byte y.ram m.text ≡ false = (separate_found y m id ms are.1 k).ram_text in
+    let out : holds y.ram a ≡ false = outside y.ram a (elsewhere y.ram m.text a low high apart) in
     subst (λ (b : Bool). NoData (place_by entry (holds y.text a) b y.id rest)) (sym out)
     (past_ram entry (holds y.text a) y.id rest (text_is_no_data given id a m ms are.2 k low high)))
     (found_first y m (find_module id ms) (y.id == id) e)
@@ -88,8 +88,8 @@ open_ram given a new [] are low high = refl
 open_ram given a new (y ∷ ms) are low high =
     let s = separate_end y new ms are.1 in
     let rest = place_in ms a in
-    let past_text = elsewhere y.text new.ram a low high are.0.text_ok.order s.text_ram in
-    let past_data = elsewhere y.ram new.ram a low high are.0.ram_ok.order s.rams in
+    let past_text = elsewhere y.text new.ram a low high s.text_ram in
+    let past_data = elsewhere y.ram new.ram a low high s.rams in
     rw (no_entry y.text a are.0.text_ok (outside y.text a past_text), outside y.text a past_text, outside y.ram a past_data) (open_ram given a new ms are.2 low high)
 
 last_ok : (given : ℕ) (new : Module) (ms : List Module) → AreModules given (ms ++ new ∷ []) → IsModule given new

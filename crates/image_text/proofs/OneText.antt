@@ -1,16 +1,16 @@
 -- The text of an image is not refused, and no other image has it.
-use Rattle.std.proofs.Common.{◌≡◌, ◌⊎◌, inl, inr, ⊎_elim, ℕ, zero, suc, ◌+◌, ◌*◌, ◌/◌, ◌%◌, ◌<◌, ◌≤◌, min, List, [], ◌∷◌, ◌++◌, map, length, take, drop, get_or, slice_index, codes, Bool, true, false, nat_lt, cond, not, ◌&&◌, ◌||◌, ◌==◌, Option, Some, None, refl, sym, ap, ◌∙◌, subst, arith, lit<, length-append, length-take, length-drop}
+use Rattle.std.proofs.Common.{◌≡◌, ◌⊎◌, inl, inr, ℕ, zero, suc, ◌+◌, ◌*◌, ◌/◌, ◌%◌, ◌<◌, ◌≤◌, min, List, [], ◌∷◌, ◌++◌, map, length, take, drop, get_or, slice_index, codes, Bool, true, false, nat_lt, cond, not, ◌&&◌, ◌||◌, ◌==◌, Option, Some, None, refl, sym, ap, ◌∙◌, subst, arith, lit<, length-append, length-take, length-drop}
 use Rattle.std.proofs.lemmas.List.{append-nil, append_cancel_left, take-append-drop, nil_from_length}
-use Rattle.std.proofs.lemmas.Bool.{and_parts, eqb-true, not-true, and_left, and_right, or_from, agree_below_at}
+use Rattle.std.proofs.lemmas.Bool.{and_parts, eqb-true, not-true, or_from, agree_below_at}
 use Rattle.std.proofs.lemmas.Bool.Decides.{nat_tests}
 use Rattle.hex.specs.Hex.{IsBytes, lower_digits, encode_with, encode_lower}
 use Rattle.mod_layout.specs.declared.Section.{Section}
 use Rattle.mod_layout.specs.declared.Module.{Module}
 use Rattle.mod_layout.specs.declared.TableFault.{TableFault}
 use Rattle.mod_layout.specs.declared.TableFault.TheVariants.{Empty, Odd, Reserved, Full, Spent}
-use Rattle.mod_layout.specs.Table.{Table, fault_of, with_module, empty_table, shares, lowest_met, meets, fault_if, overlap_or, is_empty, is_odd, is_reserved}
-use Rattle.mod_layout.specs.Tables.{Apart, IsSection, IsModule, Separate, AreModules}
-use Rattle.mod_layout.proofs.Found.{SeparateFrom}
+use Rattle.mod_layout.specs.Table.{Table, fault_of, with_module, empty_table, share_byte, lowest_met, meets, fault_if, overlap_or, is_empty, is_odd, is_reserved}
+use Rattle.mod_layout.specs.Tables.{IsSection, IsModule, Separate, AreModules}
+use Rattle.mod_layout.proofs.Found.{SeparateFrom, share_sym}
 use Rattle.texts.specs.Lines.{is_line_feed, ended_lines, unended}
 use Rattle.texts.proofs.LawLemmas.{decimals_are_read, word_bytes}
 use Rattle.image_text.specs.declared.numbers.TheConstants.{MAX_COUNT}
@@ -467,10 +467,6 @@ rows_not_due (suc n) at memory room len are =
 
 -- ---- no refusal: the modules
 
-shares_not : (a b : Section) → Apart a b → (shares a b ≡ false) × (shares b a ≡ false)
-shares_not a b h = ⊎_elim (λ l. (and_right (nat_lt a.start b.end) (nat_lt b.start a.end) (grind (arith, nat_tests)), and_left (nat_lt b.start a.end) (nat_lt a.start b.end) (grind (arith, nat_tests))))
-    (λ l. (and_left (nat_lt a.start b.end) (nat_lt b.start a.end) (grind (arith, nat_tests)), and_right (nat_lt b.start a.end) (nat_lt a.start b.end) (grind (arith, nat_tests)))) h
-
 abbrev ApartFrom : List Module → Module → Type 0
 ApartFrom [] m = Unit {0}
 ApartFrom (x ∷ xs) m = Separate x m × ApartFrom xs m
@@ -479,8 +475,8 @@ lowest_none : (xs : List Module) (m : Module) → ApartFrom xs m → lowest_met 
 lowest_none [] m h = refl
 lowest_none (x ∷ xs) m h =
     let s = h.0 in
-    let none = meet_not (shares m.text x.text) (shares m.text x.ram) (shares m.ram x.text) (shares m.ram x.ram)
-    (shares_not x.text m.text s.texts).1 (shares_not x.ram m.text s.ram_text).1 (shares_not x.text m.ram s.text_ram).1 (shares_not x.ram m.ram s.rams).1 in
+    let none = meet_not (share_byte m.text x.text) (share_byte m.text x.ram) (share_byte m.ram x.text) (share_byte m.ram x.ram)
+    (share_sym x.text m.text s.texts) (share_sym x.ram m.text s.ram_text) (share_sym x.text m.ram s.text_ram) (share_sym x.ram m.ram s.rams) in
     ap (λ (b : Bool). reduce min (map (λ (y : Module). y.id) (cond b (x ∷ filter (meets m.text m.ram) xs) (filter (meets m.text m.ram) xs)))) none ∙ lowest_none xs m h.1
   where
     meet_not : (a b c d : Bool) → a ≡ false → b ≡ false → c ≡ false → d ≡ false → (a || b || c || d) ≡ false
@@ -513,11 +509,10 @@ no_fault t g m h apart room few =
     let a = is_fine m.text h.text_ok in
     let b = is_fine m.ram h.ram_ok in
     let c = lowest_none t.modules m apart in
-    let own = (shares_not m.ram m.text h.apart).1 in
     let e : nat_lt (length t.modules) t.room ≡ true = grind (arith, nat_tests) in
     let f : nat_lt t.given 65535 ≡ true = grind (arith, nat_tests) in
-    steps (is_empty m.text) (is_empty m.ram) (is_odd m.text) (is_odd m.ram) (is_reserved m.text) (is_reserved m.ram) (shares m.text m.ram) (nat_lt (length t.modules) t.room) (nat_lt t.given 65535) (lowest_met m.text m.ram t.modules)
-    a.filled b.filled a.even b.even a.free b.free own e f c
+    steps (is_empty m.text) (is_empty m.ram) (is_odd m.text) (is_odd m.ram) (is_reserved m.text) (is_reserved m.ram) (share_byte m.text m.ram) (nat_lt (length t.modules) t.room) (nat_lt t.given 65535) (lowest_met m.text m.ram t.modules)
+    a.filled b.filled a.even b.even a.free b.free h.apart e f c
   where
     steps : (a b c d e f g h i : Bool) (o : Option ℕ) → a ≡ false → b ≡ false → c ≡ false → d ≡ false → e ≡ false → f ≡ false → g ≡ false → h ≡ true → i ≡ true → o ≡ None
         → fault_if (a || b) Empty (fault_if (c || d) Odd (overlap_or o g (fault_if (e || f) Reserved (fault_if (not h) Full (fault_if (not i) Spent None))))) ≡ None

@@ -7,7 +7,7 @@ use Rattle.pc_access.proofs.RightLemmas.{aligned_both, refused_not}
 use Rattle.sm_words.specs.declared.width.Width.{Width}
 use Rattle.sm_words.specs.declared.width.Width.TheVariants.{Byte, Word}
 use Rattle.mod_layout.specs.Table.{Table, place_of, module_of, size_of, holds}
-use Rattle.mod_layout.specs.Tables.{Apart, IsModule, IsTable}
+use Rattle.mod_layout.specs.Tables.{IsModule, IsTable}
 use Rattle.mod_layout.specs.declared.Module.{Module}
 use Rattle.mod_layout.specs.declared.Place.TheVariants.{Entry, Text, Data}
 use Rattle.pc_access.specs.Rights.{right, right_at, misaligned, first_denied, is_id}
@@ -17,6 +17,7 @@ use Rattle.pc_access.specs.declared.Kind.{Kind}
 use Rattle.pc_access.specs.declared.Kind.TheVariants.{Read, Write}
 use Rattle.pc_access.specs.declared.Rule.TheVariants.{ReadData, WriteData}
 use Rattle.attest.specs.Accesses.{is_read, is_write, reads_of, writes_of}
+use Rattle.mod_layout.proofs.TableLemmas.{Apart}
 pub use Rattle.mod_layout.proofs.Found.{within as holds_in}
 use Rattle.isolation.proofs.Bytes.{Out}
 use Rattle.isolation.proofs.Each.{Each}

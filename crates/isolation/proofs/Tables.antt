@@ -1,11 +1,11 @@
 -- What the table says of a module stays as others come and go.
-use Rattle.std.proofs.Common.{◌≡◌, ◌≢◌, ◌⊎◌, inl, inr, ⊎_elim, ℕ, ◌+◌, ◌%◌, ◌<◌, ◌≤◌, List, [], ◌∷◌, ◌++◌, Bool, true, false, cond, ◌||◌, ◌==◌, Some, refl, sym, ap, ◌∙◌, subst, arith}
+use Rattle.std.proofs.Common.{◌≡◌, ◌≢◌, ◌⊎◌, inl, inr, ⊎_elim, ℕ, ◌+◌, ◌%◌, ◌≤◌, List, [], ◌∷◌, ◌++◌, Bool, true, false, cond, ◌||◌, ◌==◌, Some, refl, sym, ap, ◌∙◌, subst, arith}
 use Rattle.std.proofs.lemmas.Bool.Decides.{nat_tests}
 use Rattle.sm_words.specs.Words.{reg}
 use Rattle.insn_decode.specs.declared.insn.Insn.{Insn}
 use Rattle.insn_decode.specs.declared.insn.Insn.TheVariants.{Unit as UnitOp}
-use Rattle.mod_layout.specs.Table.{Table, place_in, place_of, module_of, holds, without, drop_module, takes, with_module}
-use Rattle.mod_layout.specs.Tables.{Apart, IsSection, IsModule, Separate, AreModules, IsTable}
+use Rattle.mod_layout.specs.Table.{Table, place_in, place_of, module_of, holds, share_byte, without, drop_module, takes, with_module}
+use Rattle.mod_layout.specs.Tables.{IsSection, IsModule, Separate, AreModules, IsTable}
 use Rattle.mod_layout.specs.declared.Module.{Module}
 use Rattle.mod_layout.specs.declared.Place.{Place}
 use Rattle.mod_layout.specs.declared.Place.TheVariants.{Entry, Text, Data}
@@ -13,14 +13,14 @@ use Rattle.mod_layout.specs.declared.Section.{Section}
 use Rattle.attest.specs.Units.{UnitName, Protect, new_text, new_ram, table_by}
 use Rattle.cpu_step.specs.Asked.{table_after}
 use Rattle.isolation.proofs.Rights.{Sound}
-use Rattle.mod_layout.proofs.TableLemmas.{apart_sym, table_dropped, table_more}
-use Rattle.mod_layout.proofs.Found.{separate_found, outside, elsewhere, no_entry, ends_of, SeparateFrom, place_by, find_module}
+use Rattle.mod_layout.proofs.TableLemmas.{apart_of, table_dropped, table_more}
+use Rattle.mod_layout.proofs.Found.{separate_found, module_found, outside, elsewhere, share_sym, no_entry, ends_of, SeparateFrom, place_by, find_module}
 
-apart_out : (s r : Section) (a : ℕ) → s.start < s.end → r.start < r.end → Apart s r → holds s a ≡ true → holds r a ≡ false
-apart_out s r a so ro h e = let p = ends_of s a e in outside r a (elsewhere r s a p.0 p.1 ro (apart_sym s r h))
+apart_out : (s r : Section) (a : ℕ) → share_byte s r ≡ false → holds s a ≡ true → holds r a ≡ false
+apart_out s r a h e = let p = ends_of s a e in outside r a (elsewhere r s a p.0 p.1 (share_sym s r h))
 
 separate_sym : (x y : Module) → Separate x y → Separate y x
-separate_sym x y s = record { texts = apart_sym x.text y.text s.texts; text_ram = apart_sym x.ram y.text s.ram_text; ram_text = apart_sym x.text y.ram s.text_ram; rams = apart_sym x.ram y.ram s.rams; ids = λ e. s.ids (sym e) }
+separate_sym x y s = record { texts = share_sym x.text y.text s.texts; text_ram = share_sym x.ram y.text s.ram_text; ram_text = share_sym x.text y.ram s.text_ram; rams = share_sym x.ram y.ram s.rams; ids = λ e. s.ids (sym e) }
 
 abbrev is_entry : Section → ℕ → Bool
 is_entry s a = (a == s.start) || (a == s.start + 1)
@@ -31,7 +31,7 @@ module _ (given : ℕ) (x : Module) (ok : IsModule given x) (rest : Place) (a : 
 
   place_data : holds x.ram a ≡ true → place_by (is_entry x.text a) (holds x.text a) (holds x.ram a) x.id rest ≡ Data x.id
   place_data r =
-      let t = apart_out x.ram x.text a ok.ram_ok.order ok.text_ok.order ok.apart r in
+      let t = apart_out x.ram x.text a (share_sym x.text x.ram ok.apart) r in
       rw (no_entry x.text a ok.text_ok t, t, r) refl
 
   place_text : holds x.text a ≡ true → (place_by (is_entry x.text a) (holds x.text a) (holds x.ram a) x.id rest ≡ Text x.id) ⊎ (place_by (is_entry x.text a) (holds x.text a) (holds x.ram a) x.id rest ≡ Entry x.id)
@@ -97,9 +97,9 @@ module _ (given : ℕ) (m : ℕ) where
       let o = f.is_module in
       record {
         is_module = f.is_module;
-        in_data = λ a h. place_skip given x ok (place_in ms a) a (apart_out own.ram x.text a o.ram_ok.order ok.text_ok.order (apart_sym x.text own.ram s.text_ram) h) (apart_out own.ram x.ram a o.ram_ok.order ok.ram_ok.order (apart_sym x.ram own.ram s.rams) h) ∙ f.in_data a h;
+        in_data = λ a h. place_skip given x ok (place_in ms a) a (apart_out own.ram x.text a (share_sym x.text own.ram s.text_ram) h) (apart_out own.ram x.ram a (share_sym x.ram own.ram s.rams) h) ∙ f.in_data a h;
         in_text = λ a h.
-            let e = place_skip given x ok (place_in ms a) a (apart_out own.text x.text a o.text_ok.order ok.text_ok.order (apart_sym x.text own.text s.texts) h) (apart_out own.text x.ram a o.text_ok.order ok.ram_ok.order (apart_sym x.ram own.text s.ram_text) h) in
+            let e = place_skip given x ok (place_in ms a) a (apart_out own.text x.text a (share_sym x.text own.text s.texts) h) (apart_out own.text x.ram a (share_sym x.ram own.text s.ram_text) h) in
             ⊎_elim (λ p. inl (e ∙ p)) (λ p. inr (e ∙ p)) (f.in_text a h);
         says = λ a. says_skip m own a x.id (is_entry x.text a) (holds x.text a) (holds x.ram a) (place_in ms a) ne (f.says a);
       }
@@ -140,8 +140,12 @@ sound_from m own t ok e =
       in_data = f.in_data;
       in_text = f.in_text;
       entry_only = λ a h even. at_start own.text a o.text_ok (subst (λ p. Says m own p a) h (f.says a) refl) even;
-      apart = λ a h. apart_out own.text own.ram a o.text_ok.order o.ram_ok.order (apart_sym own.ram own.text o.apart) h;
-      others = λ id x g ne. let s = two_found t.given id m t.modules x own ok.modules ne g e in (s.rams, s.ram_text);
+      apart = λ a h. apart_out own.text own.ram a o.apart h;
+      others = λ id x g ne.
+          let s = two_found t.given id m t.modules x own ok.modules ne g e in
+          let order = (module_found t.given id x t.modules ok.modules g).ram_ok.order in
+          let texts = apart_of x.ram own.text order o.text_ok.order s.ram_text in
+          (apart_of x.ram own.ram order o.ram_ok.order s.rams, texts);
     }
   where
     at_start : (s : Section) (a : ℕ) → IsSection s → is_entry s a ≡ true → a % 2 ≡ 0 → a ≡ s.start

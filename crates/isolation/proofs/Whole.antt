@@ -43,7 +43,8 @@ use Rattle.isolation.proofs.Turns.{outside_turn}
 use Rattle.std.proofs.lemmas.Bool.{cases_lt}
 use Rattle.isolation.proofs.Tame.{ticked_active, settled_ends, move_filter, cycle_ends}
 use Rattle.sm_words.specs.Status.{is_gie}
-use Rattle.mod_layout.proofs.Found.{ends_of}
+use Rattle.mod_layout.proofs.Found.{ends_of, share_sym}
+use Rattle.mod_layout.proofs.TableLemmas.{apart_of}
 
 module _ (m : ℕ) (own : Module) (key text answers : List ℕ) (answers_ok : list_all is_answer answers ≡ true) where
   ticked_twins : (a b : State) → Twins m own key text answers a b → Twins m own key text answers (ticked a) (ticked b)
@@ -238,7 +239,9 @@ module _ (a b : Image) (m : ℕ) (answers : List ℕ) (schedule : List Scheduled
   text_same =
       let lo = own.text.start in
       let n = size_of own.text in
-      sym (part_cleared lo n own.ram.start (size_of own.ram) b.memory sound_a.own_ok.apart) ∙ ap (section own.text) (sym cleared_same) ∙ part_cleared lo n own.ram.start (size_of own.ram) a.memory sound_a.own_ok.apart
+      let ok = sound_a.own_ok in
+      let apart = apart_of own.ram own.text ok.ram_ok.order ok.text_ok.order (share_sym own.text own.ram ok.apart) in
+      sym (part_cleared lo n own.ram.start (size_of own.ram) b.memory apart) ∙ ap (section own.text) (sym cleared_same) ∙ part_cleared lo n own.ram.start (size_of own.ram) a.memory apart
 
   boot_seen : hide m own (boot a schedule) ≡ hide m own (boot b schedule)
   boot_seen =

@@ -7,7 +7,8 @@ use Rattle.std.proofs.lemmas.List.{append-nil, take_at, get_or_at, get_or_append
 use Rattle.std.proofs.lemmas.List.Sums.{prefix_len_passes}
 use Rattle.std.proofs.lemmas.List.Quantifiers.{all_pairs_push, position-Some}
 use Rattle.mod_layout.specs.declared.Section.{Section}
-use Rattle.layout_file.specs.Clashes.{first_with, or_later, clash_after, first_clash, share_byte}
+use Rattle.mod_layout.specs.Table.{share_byte}
+use Rattle.layout_file.specs.Clashes.{first_with, or_later, clash_after, first_clash}
 use Rattle.layout_file.specs.Overlaps.{ShareByte, ShareNoByte, IsFirstOverlap}
 use Rattle.mod_layout.proofs.Found.{ends_of}
 

@@ -18,7 +18,8 @@ use Rattle.toml.specs.Parse.{parse_document}
 use Rattle.layout_file.specs.Checked.{Checked, ◌>>=◌, map_ok, gather, one}
 use Rattle.layout_file.specs.Rows.{is_within, in_bounds, in_order, of_kind, needed, is_layout_name_byte}
 use Rattle.layout_file.specs.Rows as rows
-use Rattle.layout_file.specs.Clashes.{first_clash, share_byte}
+use Rattle.mod_layout.specs.Table.{share_byte}
+use Rattle.layout_file.specs.Clashes.{first_clash}
 use Rattle.layout_file.specs.Overlaps.{ShareNoByte}
 use Rattle.layout_file.proofs.ClashLemmas.{AllPairs-first_clash, AllPairs-weaker, ShareNoByte-share_byte}
 use Rattle.layout_file.specs.Layout as layout

@@ -1,10 +1,5 @@
 -- Two values of a list that may not stand together.
-use Rattle.std.specs.Prelude.{ℕ, max, min, nat_lt, Bool, List, [], ◌∷◌, ◌++◌, length, Option, Some, None, position}
-use Rattle.mod_layout.specs.declared.Section.{Section}
-
--- the sections share a byte
-abbrev pub share_byte : Section → Section → Bool
-share_byte a b = nat_lt (max a.start b.start) (min a.end b.end)
+use Rattle.std.specs.Prelude.{ℕ, Bool, List, [], ◌∷◌, ◌++◌, length, Option, Some, None, position}
 
 -- the first pair, or else the later one
 abbrev pub or_later : Option ℕ → ℕ → Option (ℕ × ℕ) → Option (ℕ × ℕ)

@@ -10,7 +10,8 @@ use Rattle.mod_layout.specs.declared.TheConstants.{DEVICES_END, FIRST_VECTOR}
 use Rattle.layout_file.specs.Checked.{Checked, ◌>>=◌, map_ok, gather, one}
 use Rattle.layout_file.specs.Rows as rows
 use Rattle.layout_file.specs.Rows.{listed, integer, section_member, key_member, vectors, tables}
-use Rattle.layout_file.specs.Clashes.{first_clash, share_byte}
+use Rattle.mod_layout.specs.Table.{share_byte}
+use Rattle.layout_file.specs.Clashes.{first_clash}
 use Rattle.layout_file.specs.Values.{ModuleValue, LayoutValue, regions, module_names, boots_of}
 use Rattle.layout_file.specs.Views.{vectors_of, modules_of}
 use Rattle.layout_file.specs.declared.fault.Key.{Key as LayoutKey}

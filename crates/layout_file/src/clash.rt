@@ -14,12 +14,12 @@ pub trait Clash {
 }
 
 impl Clash for Section {
-    ghost use Rattle.layout_file.specs.Clashes.{share_byte};
+    ghost use Rattle.mod_layout.specs.Table.{share_byte};
 
     ghost clash = { share_byte };
 
     fn clashes(&self, later: &Section) -> bool {
-        self.start.max(later.start) < self.end.min(later.end)
+        self.shares_byte(*later)
     }
 }
 

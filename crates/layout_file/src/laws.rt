@@ -1,6 +1,7 @@
 //! Laws of the definition of a layout, each the contract of a function that does nothing.
 ghost use Rattle.std.specs.Prelude.{IfOk, MatchOption, AllPairs};
-ghost use Rattle.layout_file.specs.Clashes.{first_clash, share_byte};
+ghost use Rattle.mod_layout.specs.Table.{share_byte};
+ghost use Rattle.layout_file.specs.Clashes.{first_clash};
 ghost use Rattle.layout_file.specs.Layout.{LayoutOf};
 ghost use Rattle.layout_file.specs.Overlaps.{ShareNoByte, IsFirstOverlap};
 ghost use Rattle.layout_file.specs.Sound.{IsLayout};

@@ -6,7 +6,8 @@ ghost use Rattle.layout_file.specs.Views.{module_value, modules_of};
 ghost use Rattle.layout_file.specs.internal.Views.{table_members};
 ghost use Rattle.layout_file.specs.Layout.{layout_of, LayoutOf};
 ghost use Rattle.layout_file.specs.Layout as layout;
-ghost use Rattle.layout_file.specs.Clashes.{first_clash as first_clash_of, share_byte};
+ghost use Rattle.mod_layout.specs.Table.{share_byte};
+ghost use Rattle.layout_file.specs.Clashes.{first_clash as first_clash_of};
 ghost use Rattle.layout_file.specs.Values.{regions as regions_in, module_names, boots_of};
 ghost use Rattle.std.specs.Str.{bytes_eq};
 

@@ -1,7 +1,7 @@
 -- The module with an id, and addresses inside and outside of sections.
-use Rattle.std.proofs.Common.{◌≡◌, ◌⊎◌, inl, inr, ⊎_elim, ℕ, ◌+◌, ◌<◌, ◌≤◌, List, [], ◌∷◌, Bool, true, false, cond, nat_lt, nat_le, ◌&&◌, ◌||◌, ◌==◌, Option, Some, None, IfSome, refl, sym, ◌∙◌, ap, subst, arith}
+use Rattle.std.proofs.Common.{◌≡◌, ◌⊎◌, inl, inr, ⊎_elim, ℕ, ◌+◌, ◌<◌, ◌≤◌, max, min, List, [], ◌∷◌, Bool, true, false, cond, nat_lt, nat_le, ◌&&◌, ◌||◌, ◌==◌, Option, Some, None, IfSome, refl, sym, ◌∙◌, ap, subst, arith}
 pub use Rattle.std.proofs.lemmas.Bool.{and_parts as and_true}
-use Rattle.std.proofs.lemmas.Bool.{and_right, leb-true, ltb-true}
+use Rattle.std.proofs.lemmas.Bool.{and_right, cases_lt, le-ltb, leb-true, ltb-false, ltb-true}
 use Rattle.std.proofs.lemmas.Bool.Decides.{nat_tests}
 use Rattle.std.proofs.lemmas.Option.{none-some}
 use Rattle.std.specs.List.{AllByRecursion, find}
@@ -9,8 +9,8 @@ use Rattle.mod_layout.specs.declared.Place.{Place}
 use Rattle.mod_layout.specs.declared.Place.TheVariants.{Entry, Text, Data}
 use Rattle.mod_layout.specs.declared.Section.{Section}
 use Rattle.mod_layout.specs.declared.Module.{Module}
-use Rattle.mod_layout.specs.Table.{Table, holds, module_of}
-use Rattle.mod_layout.specs.Tables.{Apart, IsSection, IsModule, Separate, AreModules, IsTable}
+use Rattle.mod_layout.specs.Table.{Table, holds, module_of, share_byte}
+use Rattle.mod_layout.specs.Tables.{IsSection, IsModule, Separate, AreModules, IsTable}
 
 -- what an address is, by three tests on the first module: its entry word, the rest of its text, its data
 abbrev pub place_by : Bool → Bool → Bool → ℕ → Place → Place
@@ -52,10 +52,21 @@ no_entry s a ok e = by ((a == s.start) || (a == s.start + 1)) refl
         let up : a ≤ s.start + 1 = grind (arith, nat_tests) in
         let t = within s a low (omega arith) in absurd (let c : true ≡ false = sym t ∙ e in cc)
 
--- an address of one section is outside one apart from it
-pub elsewhere : (s r : Section) (a : ℕ) → r.start ≤ a → a < r.end → s.start < s.end → Apart s r → (a < s.start) ⊎ (s.end ≤ a)
-elsewhere s r a low high order (inl h) = inr (omega arith)
-elsewhere s r a low high order (inr h) = inl (omega arith)
+-- two sections that share no byte share none the other way round
+pub share_sym : (a b : Section) → share_byte a b ≡ false → share_byte b a ≡ false
+share_sym a b h =
+    let ends : min a.end b.end ≤ max a.start b.start = ltb-false (max a.start b.start) (min a.end b.end) h in
+    le-ltb (max b.start a.start) (min b.end a.end) (omega arith)
+
+-- an address of one section is outside one with which it shares no byte
+pub elsewhere : (s r : Section) (a : ℕ) → r.start ≤ a → a < r.end → share_byte s r ≡ false → (a < s.start) ⊎ (s.end ≤ a)
+elsewhere s r a low high h = by (cases_lt a s.start)
+  where
+    by : (a < s.start) ⊎ (s.start ≤ a) → (a < s.start) ⊎ (s.end ≤ a)
+    by (inl before) = inl before
+    by (inr from) =
+        let ends : min s.end r.end ≤ max s.start r.start = ltb-false (max s.start r.start) (min s.end r.end) h in
+        inr (omega arith)
 
 -- ---- look-ups
 

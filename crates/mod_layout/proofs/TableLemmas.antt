@@ -1,16 +1,16 @@
 -- The table's definitions along a list of modules, and what a table keeps as modules come and go.
-use Rattle.std.proofs.Common.{◌≡◌, inl, inr, ⊎_elim, ℕ, ◌+◌, ◌%◌, ◌<◌, ◌≤◌, min, map, List, [], ◌∷◌, ◌++◌, length, length-append, Bool, true, false, nat_lt, nat_le, cond, not, ◌&&◌, ◌||◌, ◌==◌, Option, Some, None, IsSome, is_none, refl, sym, ◌∙◌, subst, arith, one-add}
+use Rattle.std.proofs.Common.{◌≡◌, ◌⊎◌, inl, inr, ℕ, ◌+◌, ◌%◌, ◌<◌, ◌≤◌, max, min, map, List, [], ◌∷◌, ◌++◌, length, length-append, Bool, true, false, nat_lt, nat_le, cond, not, ◌&&◌, ◌||◌, ◌==◌, Option, Some, None, IsSome, is_none, refl, sym, ◌∙◌, subst, arith, one-add}
 use Rattle.std.specs.List.{filter, fold, reduce, remove, position_or_len, position}
 use Rattle.std.proofs.lemmas.Bool.Decides.{nat_tests}
-use Rattle.std.proofs.lemmas.Bool.{not-false, and_from, and_parts, or_parts}
+use Rattle.std.proofs.lemmas.Bool.{cases_lt, ltb-false, not-false, and_from, and_parts, or_parts}
 use Rattle.mod_layout.specs.declared.TheConstants.{DEVICES_END, FIRST_VECTOR}
 use Rattle.mod_layout.specs.declared.Section.{Section}
 use Rattle.mod_layout.specs.declared.Module.{Module}
 use Rattle.mod_layout.specs.declared.TableFault.{TableFault}
 use Rattle.mod_layout.specs.declared.TableFault.TheVariants.{Empty, Odd, Reserved, Full, Spent}
-use Rattle.mod_layout.specs.Table.{Table, holds, place_in, place_of, without, drop_module, shares, meets, is_empty, is_odd, is_reserved, lowest_met, fault_if, overlap_or, fault_of, takes, with_module}
-use Rattle.mod_layout.specs.Tables.{Apart, IsSection, IsModule, Separate, AreModules, IsTable}
-use Rattle.mod_layout.proofs.Found.{SeparateFrom, find_module}
+use Rattle.mod_layout.specs.Table.{Table, holds, size_of, place_in, place_of, without, drop_module, share_byte, meets, is_empty, is_odd, is_reserved, lowest_met, fault_if, overlap_or, fault_of, takes, with_module}
+use Rattle.mod_layout.specs.Tables.{IsSection, IsModule, Separate, AreModules, IsTable}
+use Rattle.mod_layout.proofs.Found.{SeparateFrom, find_module, share_sym}
 
 -- ---- look-ups
 
@@ -101,17 +101,19 @@ table_dropped t id ok =
 
 -- ---- a module comes
 
-pub apart_sym : (s r : Section) → Apart s r → Apart r s
-apart_sym s r h = ⊎_elim inr inl h
+-- one of the two ends before the other begins
+abbrev pub Apart : Section → Section → Type 0
+Apart a b = (a.start + size_of a ≤ b.start) ⊎ (b.start + size_of b ≤ a.start)
 
--- sections that share nothing are apart
-pub apart_of : (a b : Section) → a.start < a.end → b.start < b.end → shares a b ≡ false → Apart a b
-apart_of a b ao bo h = by (nat_lt a.start b.end) (nat_lt b.start a.end) refl refl h
+-- sections with a byte each that share none are apart
+pub apart_of : (a b : Section) → a.start < a.end → b.start < b.end → share_byte a b ≡ false → Apart a b
+apart_of a b ao bo h = by (cases_lt b.start a.end)
   where
-    by : (c d : Bool) → nat_lt a.start b.end ≡ c → nat_lt b.start a.end ≡ d → (c && d) ≡ false → Apart a b
-    by true true e f g = cc
-    by true false e f g = inl (let k : a.end ≤ b.start = grind (arith, nat_tests) in omega arith)
-    by false d e f g = inr (let k : b.end ≤ a.start = grind (arith, nat_tests) in omega arith)
+    by : (b.start < a.end) ⊎ (a.end ≤ b.start) → Apart a b
+    by (inl over) =
+        let ends : min a.end b.end ≤ max a.start b.start = ltb-false (max a.start b.start) (min a.end b.end) h in
+        inr (omega arith)
+    by (inr past) = inl (omega arith)
 
 -- ---- what a table that takes a module knows
 abbrev pub meets_any : Section → Section → List Module → Bool
@@ -153,7 +155,7 @@ pub record Taken (t : Table) (text ram : Section) : Type 0 where
   pub text_ok : IsSection text
   pub ram_ok : IsSection ram
   pub none : meets_any text ram t.modules ≡ false
-  pub apart : shares text ram ≡ false
+  pub apart : share_byte text ram ≡ false
   pub room : length t.modules < t.room
   pub given : t.given < 65535
 
@@ -161,7 +163,7 @@ pub taken : (t : Table) (text ram : Section) → takes t text ram ≡ true → T
 taken t text ram e =
     let e1 = no_fault (is_empty text || is_empty ram) Empty _ (none_of (fault_of t text ram) e) in
     let e2 = no_fault (is_odd text || is_odd ram) Odd _ e1.1 in
-    let e3 = no_overlap (lowest_met text ram t.modules) (shares text ram) _ e2.1 in
+    let e3 = no_overlap (lowest_met text ram t.modules) (share_byte text ram) _ e2.1 in
     let e4 = no_fault (is_reserved text || is_reserved ram) Reserved _ e3.2 in
     let e5 = no_fault (not (nat_lt (length t.modules) t.room)) Full _ e4.1 in
     let e6 = no_fault (not (nat_lt t.given 65535)) Spent None e5.1 in
@@ -180,18 +182,17 @@ module _ (given : ℕ) (new : Module) (new_ok : IsModule (given + 1) new) (id_is
   separate_new : (x : Module) → IsModule given x → meets new.text new.ram x ≡ false → Separate x new
   separate_new x ok h =
       let t = new.text in let r = new.ram in
-      let a4 = (or_parts (shares t x.text || shares t x.ram || shares r x.text) (shares r x.ram) h).1 in
-      let h3 = (or_parts (shares t x.text || shares t x.ram || shares r x.text) (shares r x.ram) h).0 in
-      let a3 = (or_parts (shares t x.text || shares t x.ram) (shares r x.text) h3).1 in
-      let h2 = (or_parts (shares t x.text || shares t x.ram) (shares r x.text) h3).0 in
-      let a2 = (or_parts (shares t x.text) (shares t x.ram) h2).1 in
-      let a1 = (or_parts (shares t x.text) (shares t x.ram) h2).0 in
-      let to = new_ok.text_ok.order in let ro = new_ok.ram_ok.order in
+      let a4 = (or_parts (share_byte t x.text || share_byte t x.ram || share_byte r x.text) (share_byte r x.ram) h).1 in
+      let h3 = (or_parts (share_byte t x.text || share_byte t x.ram || share_byte r x.text) (share_byte r x.ram) h).0 in
+      let a3 = (or_parts (share_byte t x.text || share_byte t x.ram) (share_byte r x.text) h3).1 in
+      let h2 = (or_parts (share_byte t x.text || share_byte t x.ram) (share_byte r x.text) h3).0 in
+      let a2 = (or_parts (share_byte t x.text) (share_byte t x.ram) h2).1 in
+      let a1 = (or_parts (share_byte t x.text) (share_byte t x.ram) h2).0 in
       record {
-        texts = apart_sym t x.text (apart_of t x.text to ok.text_ok.order a1);
-        text_ram = apart_sym r x.text (apart_of r x.text ro ok.text_ok.order a3);
-        ram_text = apart_sym t x.ram (apart_of t x.ram to ok.ram_ok.order a2);
-        rams = apart_sym r x.ram (apart_of r x.ram ro ok.ram_ok.order a4);
+        texts = share_sym t x.text a1;
+        text_ram = share_sym r x.text a3;
+        ram_text = share_sym t x.ram a2;
+        rams = share_sym r x.ram a4;
         ids = λ e. let k = ok.known in absurd (omega arith);
       }
 
@@ -211,7 +212,7 @@ pub table_more : (t : Table) (vendor : ℕ) (text ram : Section) → IsTable t �
 table_more t vendor text ram ok h =
     let k = taken t text ram h in
     let new : Module = record { id = t.given + 1; vendor = vendor; text = text; ram = ram } in
-    let new_ok : IsModule (t.given + 1) new = record { text_ok = k.text_ok; ram_ok = k.ram_ok; apart = apart_sym text ram (apart_of text ram k.text_ok.order k.ram_ok.order k.apart); numbered = omega arith; known = omega arith } in
+    let new_ok : IsModule (t.given + 1) new = record { text_ok = k.text_ok; ram_ok = k.ram_ok; apart = k.apart; numbered = omega arith; known = omega arith } in
     record { modules = are_more t.given new new_ok refl t.modules ok.modules k.none; fits = let r = k.room in omega (arith, length-append t.modules (new ∷ [])); room_ok = ok.room_ok }
 
 -- ---- words

@@ -1,5 +1,5 @@
 -- Modules, their places in the address space, and the table that holds them.
-use Rattle.std.specs.Prelude.{ℕ, ◌+◌, ◌-◌, ◌%◌, List, [], ◌∷◌, ◌++◌, min, map, filter, ◌==◌, nat_lt, nat_le, if◌then◌else◌, Bool, ◌&&◌, ◌||◌, not, find, Option, None, is_none, option_map, option_and_then, length}
+use Rattle.std.specs.Prelude.{ℕ, ◌+◌, ◌-◌, ◌%◌, List, [], ◌∷◌, ◌++◌, max, min, map, filter, ◌==◌, nat_lt, nat_le, if◌then◌else◌, Bool, ◌&&◌, ◌||◌, not, find, Option, None, is_none, option_map, option_and_then, length}
 use Rattle.std.specs.Bool.{then_some}
 use Rattle.std.specs.List.{reduce}
 use Rattle.std.specs.Option.{option_or}
@@ -62,12 +62,12 @@ own_of active t = option_and_then (λ id. module_of id t) active
 -- ---- a new module
 
 -- whether two sections have a byte in common
-abbrev pub shares : Section → Section → Bool
-shares a b = nat_lt a.start b.end && nat_lt b.start a.end
+abbrev pub share_byte : Section → Section → Bool
+share_byte a b = nat_lt (max a.start b.start) (min a.end b.end)
 
 -- whether one of two sections has a byte in common with a section of this module
 abbrev pub meets : Section → Section → Module → Bool
-meets text ram m = shares text m.text || shares text m.ram || shares ram m.text || shares ram m.ram
+meets text ram m = share_byte text m.text || share_byte text m.ram || share_byte ram m.text || share_byte ram m.ram
 
 -- whether a section's start is not below its end
 abbrev pub is_empty : Section → Bool
@@ -98,7 +98,7 @@ abbrev pub fault_of : Table → Section → Section → Option TableFault
 fault_of t text ram =
     fault_if (is_empty text || is_empty ram) Empty
     (fault_if (is_odd text || is_odd ram) Odd
-    (overlap_or (lowest_met text ram t.modules) (shares text ram)
+    (overlap_or (lowest_met text ram t.modules) (share_byte text ram)
     (fault_if (is_reserved text || is_reserved ram) Reserved
     (fault_if (not (nat_lt (length t.modules) t.room)) Full
     (fault_if (not (nat_lt t.given 0xFFFF)) Spent None)))))

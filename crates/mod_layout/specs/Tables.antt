@@ -1,14 +1,10 @@
 -- What a module table keeps.
-use Rattle.std.specs.Prelude.{◌≡◌, ◌≢◌, ◌⊎◌, ℕ, ◌+◌, ◌%◌, ◌<◌, ◌≤◌, List, [], ◌∷◌, length}
+use Rattle.std.specs.Prelude.{◌≡◌, ◌≢◌, ◌⊎◌, ℕ, ◌%◌, ◌<◌, ◌≤◌, false, List, [], ◌∷◌, length}
 use Rattle.std.specs.List.{AllByRecursion}
 use Rattle.mod_layout.specs.declared.TheConstants.{DEVICES_END, FIRST_VECTOR}
 use Rattle.mod_layout.specs.declared.Section.{Section}
 use Rattle.mod_layout.specs.declared.Module.{Module}
-use Rattle.mod_layout.specs.Table.{Table, size_of}
-
--- one of the two ends before the other begins
-abbrev pub Apart : Section → Section → Type 0
-Apart a b = (a.start + size_of a ≤ b.start) ⊎ (b.start + size_of b ≤ a.start)
+use Rattle.mod_layout.specs.Table.{Table, share_byte}
 
 -- a section is not empty, has even ends, and lies above the devices and below the vectors
 pub record IsSection (s : Section) : Type 0 where
@@ -22,16 +18,16 @@ pub record IsSection (s : Section) : Type 0 where
 pub record IsModule (given : ℕ) (x : Module) : Type 0 where
   pub text_ok : IsSection x.text
   pub ram_ok : IsSection x.ram
-  pub apart : Apart x.ram x.text
+  pub apart : share_byte x.text x.ram ≡ false
   pub numbered : 0 < x.id
   pub known : x.id ≤ given
 
 -- two modules share no byte, and no id
 pub record Separate (x y : Module) : Type 0 where
-  pub texts : Apart x.text y.text
-  pub text_ram : Apart x.text y.ram
-  pub ram_text : Apart x.ram y.text
-  pub rams : Apart x.ram y.ram
+  pub texts : share_byte x.text y.text ≡ false
+  pub text_ram : share_byte x.text y.ram ≡ false
+  pub ram_text : share_byte x.ram y.text ≡ false
+  pub rams : share_byte x.ram y.ram ≡ false
   pub ids : x.id ≢ y.id
 
 -- each of these is a module, and separate from those after it

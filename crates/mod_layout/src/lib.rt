@@ -4,7 +4,7 @@
 mod table;
 
 ghost use Rattle.std.specs.Prelude.{◌≡◌, ℕ, ◌+◌, ◌%◌, ◌≤◌};
-ghost use Rattle.mod_layout.specs.Table.{holds, is_entry, size_of, shares, meets, is_empty, is_odd, is_reserved, Table, place_id, place_of};
+ghost use Rattle.mod_layout.specs.Table.{holds, is_entry, size_of, share_byte, meets, is_empty, is_odd, is_reserved, Table, place_id, place_of};
 ghost use Rattle.mod_layout.specs.Tables.{IsTable};
 
 pub use table::ModuleTable;
@@ -36,10 +36,11 @@ impl Section {
         usize::from(self.start) <= addr && addr < usize::from(self.end)
     }
 
-    fn shares(self, other: Section) -> bool
-        ensures { result ≡ shares self other }
+    /// Whether it has a byte in common with another.
+    pub fn shares_byte(self, other: Section) -> bool
+        ensures exact { result ≡ share_byte self other }
     {
-        self.start < other.end && other.start < self.end
+        self.start.max(other.start) < self.end.min(other.end)
     }
 
     /// How many bytes it has.
@@ -94,10 +95,10 @@ impl Module {
     fn meets(&self, text: Section, ram: Section) -> bool
         ensures { result ≡ meets text ram self.now }
     {
-        text.shares(self.text)
-            || text.shares(self.ram)
-            || ram.shares(self.text)
-            || ram.shares(self.ram)
+        text.shares_byte(self.text)
+            || text.shares_byte(self.ram)
+            || ram.shares_byte(self.text)
+            || ram.shares_byte(self.ram)
     }
 }
 

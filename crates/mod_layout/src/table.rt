@@ -182,7 +182,7 @@ impl ModuleTable {
         if let Some(with) = lowest_met(text, ram, self.modules.as_slice()) {
             return Some(TableFault::Overlap { with });
         }
-        if text.shares(ram) {
+        if text.shares_byte(ram) {
             return Some(TableFault::Overlap { with: 0 });
         }
         if text.is_reserved() || ram.is_reserved() {

@@ -1,5 +1,6 @@
 -- Two pairs of peers.
-use Rattle.std.proofs.Common.{◌≡◌, ◌≢◌, ◌<◌, ◌≤◌, inl, inr, ℕ, ◌%◌, ◌/◌, ◌&&◌, nat_lt, List, [], ◌∷◌, length, set, replicate, slice_index, refl, sym, ap, ◌∙◌, subst, arith, Bool, true, false, lit≤}
+use Rattle.std.proofs.Common.{◌≡◌, ◌≢◌, ◌<◌, ◌≤◌, inl, ℕ, ◌%◌, ◌/◌, ◌&&◌, nat_lt, List, [], ◌∷◌, length, set, replicate, slice_index, refl, sym, ap, ◌∙◌, subst, arith, Bool, true, false, lit≤}
+use Rattle.std.proofs.lemmas.Bool.{le-ltb}
 use Rattle.std.proofs.lemmas.Bool.Decides.{nat_tests}
 use Rattle.insn_decode.specs.Code.{insn_of}
 use Rattle.cycle_table.specs.Cycles.{cycles_of}
@@ -50,7 +51,7 @@ is_called : (text_end : ℕ) → 0x0300 < text_end → text_end % 2 ≡ 0 → te
 is_called e low even high = record {
   text_ok = record { order = low; even_start = refl; even_end = even; low = omega arith; high = omega arith };
   ram_ok = record { order = omega arith; even_start = refl; even_end = refl; low = omega arith; high = omega arith };
-  apart = inr (omega arith);
+  apart = le-ltb _ _ (omega arith);
   numbered = omega arith;
   known = omega arith;
 }

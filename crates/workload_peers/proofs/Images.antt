@@ -1,5 +1,5 @@
 -- The images of a workload.
-use Rattle.std.proofs.Common.{◌≡◌, ◌<◌, ◌≤◌, inl, inr, ⊎_elim, ℕ, ◌-◌, List, [], ◌∷◌, ◌++◌, length, take, drop, replicate, refl, sym, ap, ◌∙◌, subst, arith, true, false}
+use Rattle.std.proofs.Common.{◌≡◌, ◌<◌, ◌≤◌, inl, ⊎_elim, ℕ, ◌-◌, List, [], ◌∷◌, ◌++◌, length, take, drop, replicate, refl, sym, ap, ◌∙◌, subst, arith, true, false}
 use Rattle.std.specs.Prelude.{slice_index, All}
 use Rattle.std.specs.List.{flat_map}
 use Rattle.std.proofs.lemmas.Bool.Decides.{nat_tests}
@@ -94,7 +94,7 @@ is_module : IsModule 1 (row_module 0x0322)
 is_module = record {
   text_ok = record { order = omega arith; even_start = refl; even_end = refl; low = omega arith; high = omega arith };
   ram_ok = record { order = omega arith; even_start = refl; even_end = refl; low = omega arith; high = omega arith };
-  apart = inr (omega arith);
+  apart = refl;
   numbered = omega arith;
   known = omega arith;
 }

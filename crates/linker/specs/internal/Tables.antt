@@ -2,7 +2,7 @@
 use Rattle.std.specs.Prelude.{ℕ, ◌≡◌, ◌≢◌, ◌+◌, List, [], length, false, ◌≤◌, All, ◌||◌, ◌<◌, slice_index_or, ◌⊎◌}
 use Rattle.layout_file.specs.Values.{ModuleValue}
 use Rattle.mod_layout.specs.declared.Module.{Module}
-use Rattle.mod_layout.specs.Table.{shares, is_empty, is_odd, is_reserved, Table}
+use Rattle.mod_layout.specs.Table.{share_byte, is_empty, is_odd, is_reserved, Table}
 use Rattle.linker.specs.Placement.{text_of, ram_of}
 use Rattle.image_text.specs.Image.{AreNumbered}
 
@@ -31,8 +31,8 @@ pub record Drawn (end : ℕ → ℕ) (modules : List ModuleValue) (boot number :
 
 -- the regions of modules are apart, their boots differ, and their sections are as a table wants them
 pub record TableFits (end : ℕ → ℕ) (modules : List ModuleValue) : Type 0 where
-  pub apart : (j k : ℕ) → j < length modules → k < length modules → (j ≢ k) → (shares (text_of end j (spec_at modules j)) (text_of end k (spec_at modules k)) ≡ false) × ((shares (text_of end j (spec_at modules j)) (ram_of end k (spec_at modules k)) ≡ false) × ((shares (ram_of end j (spec_at modules j)) (text_of end k (spec_at modules k)) ≡ false) × (shares (ram_of end j (spec_at modules j)) (ram_of end k (spec_at modules k)) ≡ false)))
-  pub own : (j : ℕ) → j < length modules → shares (text_of end j (spec_at modules j)) (ram_of end j (spec_at modules j)) ≡ false
+  pub apart : (j k : ℕ) → j < length modules → k < length modules → (j ≢ k) → (share_byte (text_of end j (spec_at modules j)) (text_of end k (spec_at modules k)) ≡ false) × ((share_byte (text_of end j (spec_at modules j)) (ram_of end k (spec_at modules k)) ≡ false) × ((share_byte (ram_of end j (spec_at modules j)) (text_of end k (spec_at modules k)) ≡ false) × (share_byte (ram_of end j (spec_at modules j)) (ram_of end k (spec_at modules k)) ≡ false)))
+  pub own : (j : ℕ) → j < length modules → share_byte (text_of end j (spec_at modules j)) (ram_of end j (spec_at modules j)) ≡ false
   pub some : (j : ℕ) → j < length modules → (is_empty (text_of end j (spec_at modules j)) || is_empty (ram_of end j (spec_at modules j))) ≡ false
   pub even : (j : ℕ) → j < length modules → (is_odd (text_of end j (spec_at modules j)) || is_odd (ram_of end j (spec_at modules j))) ≡ false
   pub clear : (j : ℕ) → j < length modules → (is_reserved (text_of end j (spec_at modules j)) || is_reserved (ram_of end j (spec_at modules j))) ≡ false
