@@ -7,13 +7,13 @@ use Rattle.cli_calls.specs.Command.{Command, Outcome, nothing}
 use Rattle.cli_calls.specs.Values.{read_cycles, file_named}
 use Rattle.cli_calls.specs.Words.{Text}
 
--- the entries of a schedule's file; with no file there are none
-abbrev pub entries_in : List Held → List Entry
-entries_in (a_schedule entries ∷ []) = entries
-entries_in _ = []
+-- an outcome by the entries of a schedule, whose file comes first where there is one, and by what the other files hold
+abbrev pub with_schedule : (List Entry → List Held → Outcome) → List Held → Outcome
+with_schedule outcome (a_schedule entries ∷ more) = outcome entries more
+with_schedule outcome more = outcome [] more
 
 abbrev pub image_run_outcome : (Image → List Entry → ℕ → Outcome) → ℕ → List Held → Outcome
-image_run_outcome told cycles (an_image value ∷ more) = told value (entries_in more) cycles
+image_run_outcome told cycles (an_image value ∷ more) = with_schedule (λ entries others. told value entries cycles) more
 image_run_outcome told cycles _ = nothing
 
 abbrev pub image_run_command : (Image → List Entry → ℕ → Outcome) → Text → Option Text → ℕ → Command

@@ -8,8 +8,9 @@ use Rattle.elf_objects.specs.Object.{ObjectValue}
 use Rattle.linker.specs.Image.{linked_image}
 use Rattle.linker.specs.Refusals.{link_fault_of}
 use Rattle.written_machine.specs.declared.ScriptLine.{ScriptLine}
-use Rattle.cli_files.specs.Files.{image_file, need, an_image, a_schedule, a_script, Holds, IsScheduleOf, script_file, layout_file, object_needs, a_layout, an_object, HoldAll}
+use Rattle.cli_files.specs.Files.{image_file, need, an_image, a_schedule, a_script, Holds, IsScheduleOf, script_file, layout_file, object_needs, a_layout, an_object, Held, HoldAll}
 use Rattle.cli_calls.specs.Command.{gives, runs, Comes, Outcome}
+use Rattle.cli_calls.specs.ImageRuns.{with_schedule}
 use Rattle.cli_calls.specs.Linking.{objects_in, linked}
 use Rattle.cli_calls.proofs.Given.{linked_gives}
 use Rattle.sm_cli.specs.MonitorCommand.{monitor_command, script_answer}
@@ -24,13 +25,26 @@ monitor_comes files name None script_name value entries script h s k =
 monitor_comes files name (Some own) script_name value entries script h s k =
     record { helds = an_image value ∷ a_schedule entries ∷ a_script script ∷ []; hold = (h, (s, (k, tt))); is = refl }
 
+-- objects are no schedule
+objects_unscheduled : (outcome : List Entry → List Held → Outcome) (objects : List ObjectValue)
+    → with_schedule outcome (map an_object objects) ≡ outcome [] (map an_object objects)
+objects_unscheduled outcome [] = refl
+objects_unscheduled outcome (object ∷ more) = refl
+
 module _ (files : Option FileMap) (name : List ℕ) (names : List (List ℕ)) (layout : LayoutValue) (objects : List ObjectValue) where
   -- what comes of a layout, a schedule and objects
   pub run_comes : (schedule : Option (List ℕ)) (cycles : ℕ) (entries : List Entry) (outcome : Outcome) → Holds files (need name layout_file) (a_layout layout) → IsScheduleOf files schedule entries
       → HoldAll files (object_needs names) (map an_object objects) → linked layout (objects_in (map an_object objects)) (λ image. runs image entries cycles) ≡ outcome
       → Comes files (run_command name schedule cycles names) outcome
   run_comes None cycles entries outcome h s hs e =
-      record { helds = a_layout layout ∷ map an_object objects; hold = (h, hs); is = ap (λ (es : List Entry). linked layout (objects_in (map an_object objects)) (λ image. runs image es cycles)) (sym s) ∙ e }
+      let linked_on : List Entry → List Held → Outcome =
+      λ es helds. linked layout (objects_in helds) (λ image. runs image es cycles) in
+      record {
+        helds = a_layout layout ∷ map an_object objects;
+        hold = (h, hs);
+        is = objects_unscheduled linked_on objects
+            ∙ (ap (λ (es : List Entry). linked_on es (map an_object objects)) (sym s) ∙ e);
+      }
   run_comes (Some own) cycles entries outcome h s hs e = record { helds = a_layout layout ∷ (a_schedule entries ∷ map an_object objects); hold = (h, (s, hs)); is = e }
 
   -- the run of the image that objects link to

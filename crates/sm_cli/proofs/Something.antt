@@ -22,8 +22,8 @@ use Rattle.sm_cli.specs.ChallengeCommand.{challenge_command, read_challenge}
 use Rattle.sm_cli.specs.CheckCommand.{check_command, read_check}
 use Rattle.sm_cli.specs.DisCommand.{dis_command, range_command, read_dis}
 use Rattle.sm_cli.specs.KeyCommand.{keys_by, key_command, read_key}
-use Rattle.cli_calls.specs.Linking.{objects_in}
-use Rattle.cli_calls.proofs.Sound.{Sound, AllSound, some_linked, of_image_run, of_objects, IfSound, IsSomething, if_none, if_some, if_map, if_then, if_else, something_comes}
+use Rattle.cli_calls.specs.Linking.{linked, objects_in}
+use Rattle.cli_calls.proofs.Sound.{Sound, AllSound, some_linked, some_scheduled, of_image_run, of_objects, IfSound, IsSomething, if_none, if_some, if_map, if_then, if_else, something_comes}
 use Rattle.sm_cli.specs.LinkCommand.{linked_image_text}
 use Rattle.sm_cli.specs.LoneCommand.{lone_by, lone_command, lone_with, read_lone}
 use Rattle.sm_cli.specs.MakeCommand.{make_command, read_make, seed_of}
@@ -98,12 +98,10 @@ sound_balance name id arms map (held ∷ second ∷ more) h e = h.0.is
 
 sound_run : (layout : Text) (schedule : Option Text) (cycles : ℕ) (objects : List Text) → Sound (run_command layout schedule cycles objects)
 sound_run name schedule cycles objects map [] h e = h
-sound_run name None cycles objects map (a_layout layout ∷ more) h e =
-    some_linked layout (objects_in more) (λ image. runs image [] cycles) (link_fault_of layout (objects_in more)) (λ image e. cc) e
-sound_run name (Some own) cycles objects map (a_layout layout ∷ []) h e = h.1
-sound_run name (Some own) cycles objects map (a_layout layout ∷ a_schedule entries ∷ more) h e =
-    some_linked layout (objects_in more) (λ image. runs image entries cycles) (link_fault_of layout (objects_in more)) (λ image e. cc) e
-sound_run name (Some own) cycles objects map (a_layout layout ∷ held ∷ more) h e = h.1.0.is
+sound_run name schedule cycles objects map (a_layout layout ∷ more) h e =
+    some_scheduled (λ entries helds. linked layout (objects_in helds) (λ image. runs image entries cycles)) more
+    (λ entries helds none. some_linked layout (objects_in helds) (λ image. runs image entries cycles)
+        (link_fault_of layout (objects_in helds)) (λ image e. cc) none) e
 sound_run name schedule cycles objects map (held ∷ more) h e = h.0.is
 
 some_lone : (value : Image) (registers : List ℕ) (limit : ℕ) (o : Option Module) → is_some o ≡ true → lone_by value registers limit o ≡ nothing → ⊥

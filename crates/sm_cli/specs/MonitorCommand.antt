@@ -9,8 +9,9 @@ use Rattle.written_machine.specs.declared.ScriptLine.{ScriptLine}
 use Rattle.sm_cli.specs.declared.commands.script.TheConstants.{MOST_MARKS}
 use Rattle.cli_calls.specs.Words.{Text}
 use Rattle.cli_calls.specs.Values.{file_named}
-use Rattle.cli_files.specs.Files.{Held, an_image, a_schedule, a_script, image_file, script_file, need, schedule_needs}
+use Rattle.cli_files.specs.Files.{Held, an_image, a_script, image_file, script_file, need, schedule_needs}
 use Rattle.cli_calls.specs.Command.{Answer, Outcome, gives, nothing, Command, run_status}
+use Rattle.cli_calls.specs.ImageRuns.{with_schedule}
 
 -- what a script writes, and its status: whether the machine is stopped at the end
 abbrev pub play_answer : Marked → List ScriptLine → Answer
@@ -23,10 +24,12 @@ script_start value entries = unmarked MOST_MARKS (boot value entries)
 abbrev pub script_answer : Image → List Entry → List ScriptLine → Answer
 script_answer value entries script = play_answer (script_start value entries) script
 
--- with a schedule's file, or with none
+abbrev pub script_outcome : Image → List Entry → List Held → Outcome
+script_outcome value entries (a_script script ∷ []) = gives (script_answer value entries script)
+script_outcome value entries _ = nothing
+
 abbrev pub monitor_outcome : List Held → Outcome
-monitor_outcome (an_image value ∷ a_schedule entries ∷ a_script script ∷ []) = gives (script_answer value entries script)
-monitor_outcome (an_image value ∷ a_script script ∷ []) = gives (script_answer value [] script)
+monitor_outcome (an_image value ∷ more) = with_schedule (script_outcome value) more
 monitor_outcome _ = nothing
 
 abbrev pub monitor_command : Text → Option Text → Text → Command
