@@ -140,11 +140,10 @@ module _ (call : Call) (took cut told part : List ℕ → Type 0) (same_err same
     completes ended (was_run r e) answer a = by ended (ends_here ended r answer a)
       where
         by : (s : Status) → EndsAs s answer took cut → Complete answer s
-        by status.Done b = (b.1, b.0)
-        by status.Stopped b = (b.1, b.0)
-        by status.CheckNo b = (b.1, b.0)
         by status.WriteFault b = inl b
-        by _ b = absurd b
+        by status.ReadFault b = tt
+        by status.NoMemory b = tt
+        by _ b = b
     completes ended (was_told r o) answer a = by r.tells
       where
         of : (q : Refusal) → IsCalledFor call q r.name → Complete answer (status_of q)

@@ -9,7 +9,7 @@ use Rattle.cli_files.specs.declared.answers.Refusal.TheVariants as refusal
 use Rattle.cli_files.specs.Files.{IsFirstFault, IsReached}
 use Rattle.cli_files.specs.Refusal.{is_read_fault, status_of, refusal_line}
 use Rattle.cli_calls.specs.Command.{Answer, Command, Comes, refuses, IsAnswer}
-use Rattle.cli_calls.specs.Runs.{IsRun}
+use Rattle.cli_calls.specs.Runs.{EndsAs, IsRun}
 
 -- what a call was given: the program's name, the command that its words are, the files where they are told, and their
 -- count of faults before and after
@@ -92,13 +92,10 @@ IsOrOutside wanted status.WriteFault = Unit {0}
 IsOrOutside wanted status.NoMemory = Unit {0}
 IsOrOutside wanted ended = ended ≡ wanted
 
--- what a command that its files serve is answered: its whole text with its status; or that a sink failed, within this text
--- or within the line that was told; or that a read failed, or want of memory
+-- what a command that its files serve is answered: its text ended so; or a sink failed within the line that was told;
+-- or a read failed, or memory ran out
 abbrev pub Completes : Status → Answer → (took cut : List ℕ → Type 0) (told : Type 0) → Type 0
-Completes status.Done answer took cut told = (answer.status ≡ status.Done) × took answer.text
-Completes status.Stopped answer took cut told = (answer.status ≡ status.Stopped) × took answer.text
-Completes status.CheckNo answer took cut told = (answer.status ≡ status.CheckNo) × took answer.text
-Completes status.WriteFault answer took cut told = cut answer.text ⊎ told
+Completes status.WriteFault answer took cut told = EndsAs status.WriteFault answer took cut ⊎ told
 Completes status.ReadFault answer took cut told = Unit {0}
 Completes status.NoMemory answer took cut told = Unit {0}
-Completes _ answer took cut told = ⊥
+Completes ended answer took cut told = EndsAs ended answer took cut

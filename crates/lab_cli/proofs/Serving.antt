@@ -40,8 +40,8 @@ some_steps value entries cycles e = cc
 pub no_row_differs : (ended : Status) (pulses : Pulses) (first second : Image) (took cut : List ℕ → Type 0) (told : Type 0) → different pulses first second ≡ 0
     → Completes ended (sweep_answer pulses first second) took cut told → ended ≢ status.CheckNo
 no_row_differs ended pulses first second took cut told none h refused =
-    let differs : (sweep_status (different pulses first second) ≡ status.CheckNo) × took (sweep_text pulses first second) = subst (λ s. Completes s (sweep_answer pulses first second) took cut told) refused h in
-    let clash : status.Done ≡ status.CheckNo = ap sweep_status (sym none) ∙ differs.0 in
+    let differs : took (sweep_text pulses first second) × (sweep_status (different pulses first second) ≡ status.CheckNo) = subst (λ s. Completes s (sweep_answer pulses first second) took cut told) refused h in
+    let clash : status.Done ≡ status.CheckNo = ap sweep_status (sym none) ∙ differs.1 in
     cc
 
 of_released : (vs : List Text) → IfSound (read_released vs)
