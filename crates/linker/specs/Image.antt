@@ -15,8 +15,8 @@ use Rattle.linker.specs.Stubs.{put_stub, put_vector}
 
 -- all bytes that nothing sets are 0
 abbrev pub memory_by : Linking → (ℕ → ℕ) → LayoutValue → List ObjectValue → List ℕ → List ℕ
-memory_by l end layout objects blank_memory =
-    let sections = fold (put_sections l.address) blank_memory (numbered_objects objects) in
+memory_by l end layout objects memory =
+    let sections = fold (put_sections l.address) memory (numbered_objects objects) in
     let fields = fold (put_fields l) sections (numbered_objects objects) in
     let stubs = fold_at (put_stub l end) fields 0 layout.modules in
     fold (put_vector l) stubs layout.vectors
