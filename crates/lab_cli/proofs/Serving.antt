@@ -55,7 +55,7 @@ of_sweep (first ∷ second ∷ line ∷ from ∷ to ∷ cycles ∷ []) = if_map 
 of_sweep _ = if_none
 
 all_sound : AllSound lab_commands
-all_sound = (of_objects map_text, of_released, of_sweep, of_image_run steps_outcome some_steps, of_offer, tt)
+all_sound = (of_objects map_text, (of_released, (of_sweep, (of_image_run steps_outcome some_steps, (of_offer, tt)))))
 
 -- what comes of the files of a command line is something
 pub something : (words : List Text) (map : FileMap) (command : Command) (outcome : Outcome) → command_of lab_commands words ≡ Some command → Comes (Some map) command outcome → outcome ≡ nothing → ⊥

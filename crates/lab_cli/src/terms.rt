@@ -171,7 +171,11 @@ fn is_granted(verdict: Verdict, granted: &[Term]) -> bool
 }
 
 // The granted terms that stand after these verdicts.
-fn standing_terms(alloc: Global, granted: &[Term], verdicts: &[Verdict]) -> Result<Terms, AllocError>
+fn standing_terms(
+    alloc: Global,
+    granted: &[Term],
+    verdicts: &[Verdict],
+) -> Result<Terms, AllocError>
     ensures { IfOk result (λ terms. terms.list.items ≡ spec.standing_terms granted.now verdicts.now) }
 {
     let mut list = Vec::new(alloc);

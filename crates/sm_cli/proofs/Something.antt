@@ -1,5 +1,5 @@
 -- Something comes of the files of every command line.
-use Rattle.std.proofs.Common.{◌≡◌, ℕ, ◌%◌, ◌==◌, ◌&&◌, nat_le, true, is_some, List, [], ◌∷◌, Option, Some, None, option_map}
+use Rattle.std.proofs.Common.{◌≡◌, ℕ, ◌%◌, ◌==◌, ◌&&◌, nat_le, true, is_some, List, [], ◌∷◌, drop, Option, Some, None, option_map}
 use Rattle.std.specs.Prelude.{option_and_then}
 use Rattle.sm_io.specs.Files.{FileMap}
 use Rattle.texts.specs.Hexadecimals.{read_hex_word, read_hex_key}
@@ -101,7 +101,7 @@ sound_run name schedule cycles objects map [] h e = h
 sound_run name schedule cycles objects map (a_layout layout ∷ more) h e =
     some_scheduled (λ entries helds. linked layout (objects_in helds) (λ image. runs image entries cycles)) more
     (λ entries helds none. some_linked layout (objects_in helds) (λ image. runs image entries cycles)
-        (link_fault_of layout (objects_in helds)) (λ image e. cc) none) e
+    (link_fault_of layout (objects_in helds)) (λ image e. cc) none) e
 sound_run name schedule cycles objects map (held ∷ more) h e = h.0.is
 
 some_lone : (value : Image) (registers : List ℕ) (limit : ℕ) (o : Option Module) → is_some o ≡ true → lone_by value registers limit o ≡ nothing → ⊥
@@ -193,22 +193,11 @@ of_make (seed ∷ []) = if_map make_command (seed_of seed) sound_make
 of_make _ = if_none
 
 all_sound : AllSound sancus_commands
-all_sound = (
-  of_image_run runs some_run,
-  of_key,
-  of_dis,
-  of_challenge,
-  of_vendor,
-  of_check,
-  of_balance,
-  of_objects linked_image_text,
-  of_run,
-  of_lone,
-  of_monitor,
-  of_asm,
-  of_make,
-  tt,
-)
+all_sound =
+    let last : AllSound (drop 8 sancus_commands) = (of_run, (of_lone, (of_monitor, (of_asm, (of_make, tt))))) in
+    let later : AllSound (drop 4 sancus_commands) =
+    (of_vendor, (of_check, (of_balance, (of_objects linked_image_text, last)))) in
+    (of_image_run runs some_run, (of_key, (of_dis, (of_challenge, later))))
 
 -- what comes of the files of a command line is something
 pub something : (words : List Text) (map : FileMap) (command : Command) (outcome : Outcome) → command_of sancus_commands words ≡ Some command → Comes (Some map) command outcome → outcome ≡ nothing → ⊥
