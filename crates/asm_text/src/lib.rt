@@ -34,10 +34,10 @@ pub const MAX_LABELS: usize = 4_096;
 /// The most bytes of a section.
 pub const MAX_SIZE: u32 = 65_534;
 
+/// The most symbols of a source, and the most relocations.
+pub const MAX_ENTRIES: usize = 1_048_576;
+
 // What the rules say of them: a changed number is refused here.
 const _: () = prove!(MAX_LABELS == 4_096 && MAX_NAME == 64 && MAX_SECTIONS == 256);
 
-const _: () = prove!(MAX_SIZE == 65_534);
-
-/// The most symbols of a source, and the most relocations.
-pub const MAX_ENTRIES: usize = 1_048_576;
+const _: () = prove!(MAX_SIZE == 65_534 && MAX_SOURCE == 1_048_576 && MAX_ENTRIES == 1_048_576);

@@ -22,9 +22,6 @@ pub const RESUMPTION: u32 = 4;
 // What the rules say of them: a changed number is refused here.
 const _: () = prove!(ARRIVAL == 5 && PADDING == 11 && RESUMPTION == 4);
 
-// The definitions of the machine and its laws take these numbers from here.
-const _: () = prove!(PADDING == 11 && ARRIVAL == 5 && RESUMPTION == 4);
-
 /// The phase in which the machine is once an interrupt of a module was accepted.
 pub fn arrive() -> Phase
     ensures phase { result ≡ Phase.Pad 11 }

@@ -14,9 +14,6 @@ pub const MOST_FRAMES: usize = 8;
 // What the rules say of them: a changed number is refused here.
 const _: () = prove!(MOST_FRAMES == 8);
 
-// The definitions of the machine and its laws take the number from here.
-const _: () = prove!(MOST_FRAMES == 8);
-
 /// One interruption.
 #[derive(Clone, Copy, Debug, Default, PartialEq, Eq)]
 pub enum Frame {
