@@ -10,15 +10,15 @@ use Rattle.flow_rule.specs.declared.Val.{Val}
 use Rattle.flow_rule.specs.declared.Reach.{Reach}
 use Rattle.flow_rule.specs.declared.Reason.TheVariants.{SecretAtExit, DataAtExit}
 use Rattle.std.proofs.lemmas.Bool.Decides.{nat_tests}
-use Rattle.flow_rule.specs.declared.Val.TheVariants.{Public, Secret}
-use Rattle.flow_rule.specs.declared.Reason.TheVariants.{Illegal, UnknownTarget, SecretBranch, Unit as UnitWord}
+use Rattle.flow_rule.specs.declared.Val.TheVariants.{Secret}
+use Rattle.flow_rule.specs.declared.Reason.TheVariants.{Illegal, UnknownTarget, SecretBranch}
 use Rattle.flow_rule.specs.Rounds.{Found, FlowStep, Point}
-use Rattle.flow_rule.specs.Values.{is_secret, val, put_val}
+use Rattle.flow_rule.specs.Values.{is_secret, val}
 use Rattle.arm_balance.specs.Met.{text_byte}
 use Rattle.flow_rule.specs.Does.{word_no, past_val, does_val, writes_val}
 use Rattle.flow_rule.specs.Reasons.{exit_reasons, word_reasons, reach_reasons, reach_reasons_by, because, because_if}
 use Rattle.flow_rule.specs.Going.{goes, also, both, fails}
-use Rattle.flow_rule.specs.Steps.{step_jump, step_unit, step_insn, step_of}
+use Rattle.flow_rule.specs.Steps.{step_jump, step_insn, step_of}
 use Rattle.flow_rule.specs.Stub.{shut_reasons, shut_if, is_shut, is_open, word_number, step_stub, step_entries, to_entries, text_word}
 use Rattle.flow_check.specs.declared.violation.Violation.{Violation}
 use Rattle.flow_check.specs.internal.Violations.{lesser, noted, shut_at, entry_addrs}

@@ -142,7 +142,13 @@ fn take_arm(
 {
     match *walked {
         Ok(tally) => {
-            note_if(tally.cycles != u32::from(time), least, branch, Reason::ArmTime, number);
+            note_if(
+                tally.cycles != u32::from(time),
+                least,
+                branch,
+                Reason::ArmTime,
+                number,
+            );
             *told = tally.state;
         }
         Err(addr) => note(least, branch, Reason::Arm, addr),

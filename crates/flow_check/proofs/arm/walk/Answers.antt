@@ -27,3 +27,9 @@ loop-left-preserved c = record {
       ∙ c.in_default.ensures.on (c.loop-left.left - 1);
   short = omega (arith, c.loop-left.invariant.short, c.walk_on.ensures.cycles);
 }
+
+pub returns : goal.returns
+returns c =
+    let none : c.loop-left.left ≡ 0 = omega arith in
+    sym (c.loop-left.invariant.rest
+    ∙ ap (λ n. tally_told (arm_walk c.args.program.now c.args.join n (point_at c.loop-left.point)) c.loop-left.tally) none)
