@@ -3,7 +3,6 @@ use Rattle.std.proofs.Common.{◌≡◌, ℕ, List, [], ◌∷◌, ◌++◌, ref
 use Rattle.std.proofs.lemmas.Bool.Decides.{nat_tests}
 use Rattle.pc_access.specs.Rights.{is_id}
 use Rattle.reg_backup.specs.declared.backup.Backup.{Backup}
-use Rattle.reg_backup.specs.declared.backup.After.TheVariants.{Handler, Resume}
 use Rattle.tracer.specs.declared.Event.{Event}
 use Rattle.written_machine.specs.Cycle.{Step, pc_of, settle, arrive_inside, turn}
 use Rattle.written_machine.specs.State.{State}

@@ -280,6 +280,25 @@ module _ (a b : Image) (m : ℕ) (answers : List ℕ) (schedule : List Scheduled
       (cycle_alike m own a.node_key (section own.text a.memory) answers peers.answers_ok (at a schedule k) (at b schedule k) (related_at k (λ j lt. agree j (omega arith)))
       (fine_at a schedule k peers.image_a) (fine_at b schedule k peers.image_b) (agree k (omega arith))).events
 
+  pub callers_while : (k : ℕ) → AnswersAgree a b m answers schedule k → (at a schedule k).caller ≡ (at b schedule k).caller
+  callers_while k agree = related_seen m own a.node_key (section own.text a.memory) answers (λ s. s.caller)
+      (λ c s. (hidden_same m own a.node_key (section own.text a.memory) c s).3) (at a schedule k) (at b schedule k)
+      (related_at k agree)
+
+  pub gie_while : (k : ℕ) → AnswersAgree a b m answers schedule k → is_gie (at a schedule k).core ≡ is_gie (at b schedule k).core
+  gie_while k agree = related_seen m own a.node_key (section own.text a.memory) answers (λ s. is_gie s.core)
+      (gie_hidden m own) (at a schedule k) (at b schedule k) (related_at k agree)
+
+  -- while the module is not active
+  pub phases_while : (k : ℕ) → AnswersAgree a b m answers schedule k → is_id m (at a schedule k).active ≡ false →
+      ((at a schedule k).phase ≡ (at b schedule k).phase) × ((at a schedule k).after ≡ (at b schedule k).after)
+  phases_while k agree e =
+      ⊎_elim
+      (λ p. (ap (λ u. u.phase) p, ap (λ u. u.after) p))
+      (λ x. let v = seen_veiled m own a.node_key (section own.text a.memory) (at a schedule k) (at b schedule k) x.seen e in
+      (ap (λ u. u.phase) v, ap (λ u. u.after) v))
+      (related_at k agree)
+
   -- the next cycle ends a call in both or in neither, and then the other registers are equal
   pub ends_while : (k : ℕ) → AnswersAgree a b m answers schedule k → filter (ends_call m) (cycle (at a schedule k)).events ≡ filter (ends_call m) (cycle (at b schedule k)).events
   ends_while k agree = ends_alike m own a.node_key (section own.text a.memory) answers peers.answers_ok (at a schedule k) (at b schedule k) (related_at k agree)
@@ -301,21 +320,16 @@ module _ (a b : Image) (m : ℕ) (schedule : List Scheduled) (peers : Peers a b 
   pub events_equal : (k : ℕ) → (cycle (at a schedule k)).events ≡ (cycle (at b schedule k)).events
   events_equal k = events_while a b m [] schedule peers k (none_differs a b m schedule (suc k))
 
-  -- while the module is not active
-  pub phases_equal : (k : ℕ) → is_id m (at a schedule k).active ≡ false → ((at a schedule k).phase ≡ (at b schedule k).phase) × ((at a schedule k).after ≡ (at b schedule k).after)
-  phases_equal k e =
-      ⊎_elim
-      (λ p. (ap (λ u. u.phase) p, ap (λ u. u.after) p))
-      (λ x. let v = seen_veiled m peers.owner a.node_key (section peers.owner.text a.memory) (at a schedule k) (at b schedule k) x.seen e in (ap (λ u. u.phase) v, ap (λ u. u.after) v))
-      (related k)
-
   pub callers_equal : (k : ℕ) → (at a schedule k).caller ≡ (at b schedule k).caller
-  callers_equal k = related_seen m peers.owner a.node_key (section peers.owner.text a.memory) [] (λ s. s.caller)
-      (λ c s. (hidden_same m peers.owner a.node_key (section peers.owner.text a.memory) c s).3) (at a schedule k) (at b schedule k) (related k)
+  callers_equal k = callers_while a b m [] schedule peers k (none_differs a b m schedule k)
 
   pub gie_equal : (k : ℕ) → is_gie (at a schedule k).core ≡ is_gie (at b schedule k).core
-  gie_equal k = related_seen m peers.owner a.node_key (section peers.owner.text a.memory) [] (λ s. is_gie s.core)
-      (gie_hidden m peers.owner) (at a schedule k) (at b schedule k) (related k)
+  gie_equal k = gie_while a b m [] schedule peers k (none_differs a b m schedule k)
+
+  -- while the module is not active
+  pub phases_equal : (k : ℕ) → is_id m (at a schedule k).active ≡ false →
+      ((at a schedule k).phase ≡ (at b schedule k).phase) × ((at a schedule k).after ≡ (at b schedule k).after)
+  phases_equal k e = phases_while a b m [] schedule peers k (none_differs a b m schedule k) e
 
   -- once the module has left the table
   pub gone_equal : (k : ℕ) → module_of m (at a schedule k).table ≡ None → at a schedule k ≡ at b schedule k

@@ -111,6 +111,22 @@ abbrev pub EventsWhile : Type 0
 EventsWhile = (a b : Image) (m : ℕ) (answers : List ℕ) (schedule : List Entry) (n : ℕ) → PeersBut a b m answers → AnswersAgree a b m answers schedule (suc n) →
     (cycle (at a schedule n)).events ≡ (cycle (at b schedule n)).events
 
+-- The caller is equal, whichever module is active,
+abbrev pub CallersWhile : Type 0
+CallersWhile = (a b : Image) (m : ℕ) (answers : List ℕ) (schedule : List Entry) (n : ℕ) → PeersBut a b m answers →
+    AnswersAgree a b m answers schedule n → (at a schedule n).caller ≡ (at b schedule n).caller
+
+-- and whether interrupts are enabled.
+abbrev pub GieWhile : Type 0
+GieWhile = (a b : Image) (m : ℕ) (answers : List ℕ) (schedule : List Entry) (n : ℕ) → PeersBut a b m answers →
+    AnswersAgree a b m answers schedule n → is_gie (at a schedule n).core ≡ is_gie (at b schedule n).core
+
+-- While the module is not active, phase and what is settled next are equal.
+abbrev pub PhasesWhile : Type 0
+PhasesWhile = (a b : Image) (m : ℕ) (answers : List ℕ) (schedule : List Entry) (n : ℕ) → PeersBut a b m answers →
+    AnswersAgree a b m answers schedule n → is_id m (at a schedule n).active ≡ false →
+    ((at a schedule n).phase ≡ (at b schedule n).phase) × ((at a schedule n).after ≡ (at b schedule n).after)
+
 -- The outside trace is one text.
 abbrev pub TracesWhile : Type 0
 TracesWhile = (a b : Image) (m : ℕ) (answers : List ℕ) (schedule : List Entry) (n : ℕ) → PeersBut a b m answers → AnswersAgree a b m answers schedule n →

@@ -4,7 +4,7 @@
 //! Each law is what a function here ensures; `specs/Laws.antt` states them in words.
 #![tactic(auto)]
 
-ghost use Rattle.isolation.specs.Laws.{SameViews, SameEvents, SamePhases, SameCallers, SameGie, SameOnceGone, SameTraces, SameLines, SameEnds, SameOutsideViews, SameStanding, SamePlays, SameLeads, ViewsWhile, EventsWhile, TracesWhile, EndsAlike, AnswersAlone, ViewsOfTwo, TracesOfTwo, EnteredIsKnown, Transparency, Cost, HandlerAfterHide, HideBeforeHandler, Numbered, CoreKept, MemoryFull, MemoryBytes, TableKept, ModuleOnce, FramesFew, Passing, EventsFew, StopTold, StopRefused, TextReadable, ZerosWritable};
+ghost use Rattle.isolation.specs.Laws.{SameViews, SameEvents, SamePhases, SameCallers, SameGie, SameOnceGone, SameTraces, SameLines, SameEnds, SameOutsideViews, SameStanding, SamePlays, SameLeads, ViewsWhile, EventsWhile, CallersWhile, GieWhile, PhasesWhile, TracesWhile, EndsAlike, AnswersAlone, ViewsOfTwo, TracesOfTwo, EnteredIsKnown, Transparency, Cost, HandlerAfterHide, HideBeforeHandler, Numbered, CoreKept, MemoryFull, MemoryBytes, TableKept, ModuleOnce, FramesFew, Passing, EventsFew, StopTold, StopRefused, TextReadable, ZerosWritable};
 
 /// Two runs of peers are seen alike by all but the one module, and tell the same, in every cycle of every schedule.
 pub fn two_runs()
@@ -32,6 +32,9 @@ pub fn texts()
 pub fn released()
     ensures views { ViewsWhile }
     ensures events { EventsWhile }
+    ensures callers { CallersWhile }
+    ensures interrupts { GieWhile }
+    ensures phases { PhasesWhile }
     ensures traces { TracesWhile }
     ensures ends { EndsAlike }
     ensures registers { AnswersAlone }
