@@ -1,5 +1,5 @@
 #!/bin/sh
-# Tries the scripts of this folder.
+# Tries the scripts of this folder, and which words the launcher hands over to `rt try`.
 #     tools/check.sh [SANCUS [SANCUS_LAB]]
 # SANCUS and SANCUS_LAB stand for ./sancus and ./sancus-lab where they are given.
 # Without the second the rows of maps and sweeps are left out. The last line is 'N passed, M failed'.
@@ -176,6 +176,20 @@ check 'a line that is no refusal'
 grep -A1 -x '#37\|#151\|#236' trace.vcd | grep -v -e '--' >got
 printf '%s\n' '#37' 'b10 m' '#151' 'b0 m' '#236' 'b110010 s' >wanted
 check 'the changes of a trace'
+
+# A launcher with no program beside it, and an rt that tells its words.
+mkdir -p alone/crates/sm_main bin
+cp "$top/sancus" alone/
+printf '%s\n' '#!/bin/sh' 'shift 2' 'echo "$@"' 'echo "checked: ended" >&2' >bin/rt
+chmod +x bin/rt
+touch check 7
+for words in "check 7 7=check $PWD/7 7" "link check 7=link $PWD/check $PWD/7" "image -- 7 - 7=image -- $PWD/7 - 7" \
+    "lone 7 7 7=lone $PWD/7 7 7"; do
+    # shellcheck disable=SC2086 # some words
+    PATH=$PWD/bin:$PATH alone/sancus ${words%=*} >got 2>/dev/null
+    printf '%s\n' "${words#*=}" >wanted
+    check "what rt try is given for ${words%=*}"
+done
 
 printf '%d passed, %d failed\n' "$passed" "$failed"
 [ "$failed" -eq 0 ]
