@@ -157,16 +157,65 @@ if command -v llvm-nm >/dev/null; then
     check 'the symbols of an ELF file'
 fi
 
-words="link $layout $object"
-for line in \
-    'sancus: link Undefined 0 7 name helper|uses helper, which no object defines: add the object or the runtime that does' \
-    'sancus: link NoPlace 0 7|no module of the layout has a place for the section .sm.shop.text: its name must be .sm.MODULE.text, .data or .bss of a module that the layout names' \
-    'sancus-lab: bad file a.o: Absent|there is no such file: check the name and the folder'; do
+# line_of ENUM NAME FIELD..: a refusal of this kind as the programs tell it.
+line_of() {
+    enum=$1
+    fault=$2
+    shift 2
+    for field in "$@"; do
+        case $field in
+        [iu][0-9]*) fault="$fault 1" ;;
+        Option*) fault="$fault -" ;;
+        Spot) fault="$fault 0 text" ;;
+        Region) fault="$fault Text" ;;
+        RelocFault) fault="$fault Outside" ;;
+        TableFault) fault="$fault Empty" ;;
+        esac
+    done
+    case $enum:$fault in
+    *:NoMemory) echo 'sancus: no memory' ;;
+    LinkFault:*) echo "sancus: link $fault" ;;
+    RelocFault:*) echo "sancus: link Reloc 0 1 1 $fault" ;;
+    Region:*) echo "sancus: link Region $fault 9 4" ;;
+    TableFault:*) echo "sancus: bad file f: Table 1 $fault" ;;
+    Rule:*) echo "5 stop $fault pc 0302 addr 0400 module 1" ;;
+    Reason:*) echo "no 0302 $fault 0001" ;;
+    LastFault:*) echo "refused $fault" ;;
+    *) echo "sancus: bad file f: $fault" ;;
+    esac
+}
+
+# shellcheck disable=SC2086 # some words
+"$top/.ci/refusals" --list | while read -r words; do line_of $words; done >wanted
+"$here/why" <wanted >said
+paste -d '|' wanted said | awk -F '|' '{ sub(/^f: /, "", $2) } $1 != $2 && $2 ~ /: / { print $1 }' >got
+check 'refusals that have a sentence with what to do'
+
+# says WORDS LINE SENTENCE: what `why` makes of a line of this command.
+says() {
     # shellcheck disable=SC2086 # some words
-    printf '%s\n' "${line%%|*}" | "$here/why" $words | sed 's/^[^ ]* //' >got
-    printf '%s\n' "${line#*|}" >wanted
-    check "${line%%|*}"
-done
+    printf '%s\n' "$2" | "$here/why" $1 >got
+    printf '%s\n' "$3" >wanted
+    check "$2"
+}
+
+words="link $layout $object"
+says "$words" 'sancus: link Undefined 0 7 name helper' \
+    "$object uses helper, which no object defines: add the object or the runtime that does"
+says "$words" 'sancus: link Region ModuleText 1 100 96' \
+    "100 bytes are to go into the text of the layout's module 1, which has room for 96: make it 4 bytes larger"
+says "$words" 'sancus: bad file my layout.toml: Overlap 1 4' \
+    'my layout.toml: its data and the text of its module 1 (counted from 0) share a byte: move one of them'
+says 'asm p.txt' 'sancus: bad file p.txt: Twice 16' \
+    'p.txt: the section or label of its line 16 was there before: rename one of them'
+says 'image p.img - 9' 'sancus: bad file p.img: Twice 1024' \
+    'p.img: two of its rows have the address 1024, which is 0x0400: join them'
+says 'sweep p.img q.img 0 1 2 9' 'sancus-lab: bad file q.img: Table 2 Overlap 1' \
+    "q.img: in the image's table, sections of modules 2 and 1 share a byte: move one of them"
+says 'check p.img 1' 'no 105e<answered+14> SecretBranch 0000' \
+    'at 105e<answered+14>, a conditional jump on flags that depend on a secret: compute without it, or balance its arms'
+says 'image p.img - 9' 'sancus: cannot read p.img' \
+    'p.img: the system gave no bytes: check the permissions, and that it is a file'
 echo '236 out 32' >wanted
 # shellcheck disable=SC2086 # some words
 "$here/why" $words <wanted >got
