@@ -146,6 +146,17 @@ check 'the name of a branch that is refused'
 "$here/names" shop.map listing | sed 's/<[^>]*>//g' >got
 cp listing wanted
 check 'a listing without its names'
+if [ -x "$lab" ]; then
+    "$lab" steps shop.img - 240 >steps
+    "$here/names" shop.map steps >named
+    sed 's/<[^>]*>//g' named >got
+    cp steps wanted
+    check 'steps without their names'
+    sed -n '/^124 /,/write/p' named >got
+    printf '%s\n' '124 1 124e<take>: 8c82 1324 sub r12, &0x1324<balance>' '  read 1324<balance> 0028' \
+        '  write 1324<balance> 0021' >wanted
+    check 'the names in steps'
+fi
 
 "$here/elf" shop.map shop.img shop.elf "$object"
 "$here/convert" shop.elf got.img --head shop.img && mv got.img got
@@ -225,6 +236,11 @@ check 'a line that is no refusal'
 grep -A1 -x '#37\|#151\|#236' trace.vcd | grep -v -e '--' >got
 printf '%s\n' '#37' 'b10 m' '#151' 'b0 m' '#236' 'b110010 s' >wanted
 check 'the changes of a trace'
+if [ -x "$lab" ]; then
+    "$here/vcd" steps >got
+    cp trace.vcd wanted
+    check 'the changes of steps, and those of the trace'
+fi
 
 # A launcher with no program beside it, and an rt that tells its words.
 mkdir -p alone/crates/sm_main bin
