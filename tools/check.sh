@@ -147,10 +147,10 @@ check 'the name of a branch that is refused'
 cp listing wanted
 check 'a listing without its names'
 if [ -x "$lab" ]; then
-    "$lab" steps shop.img - 240 >steps
-    "$here/names" shop.map steps >named
+    "$lab" steps shop.img - 240 >walk
+    "$here/names" shop.map walk >named
     sed 's/<[^>]*>//g' named >got
-    cp steps wanted
+    cp walk wanted
     check 'steps without their names'
     sed -n '/^124 /,/write/p' named >got
     printf '%s\n' '124 1 124e<take>: 8c82 1324 sub r12, &0x1324<balance>' '  read 1324<balance> 0028' \
@@ -162,10 +162,35 @@ fi
 "$here/convert" shop.elf got.img --head shop.img && mv got.img got
 cp shop.img wanted
 check 'the bytes of an ELF file, and those of the image'
-if command -v llvm-nm >/dev/null; then
+# has TOOL: whether a tool is here; says that its rows are not run where it is not.
+has() {
+    command -v "$1" >/dev/null && return
+    printf 'not run: %s is not here\n' "$1"
+    return 1
+}
+
+if has llvm-nm; then
     llvm-nm shop.elf | awk '$3 ~ /^(answered|buy|main|start|take|waiting)$/ { print substr($1, 5), $3 }' | sort >got
     printf '%s\n' '0200 start' '0208 main' '1050 answered' '1078 buy' '1124 waiting' '124e take' >wanted
     check 'the symbols of an ELF file'
+fi
+# An object of clang -g, whose source is found from the folder above examples/.
+ln -s "$top/examples" examples
+if [ -x "$lab" ]; then
+    "$sancus" link examples/lines/layout.toml examples/lines/dial.o >dial.img
+    "$lab" map examples/lines/layout.toml examples/lines/dial.o >dial.map
+    "$here/elf" dial.map dial.img dial.elf examples/lines/dial.o
+    if has llvm-objdump; then
+        llvm-objdump -d -S -l --start-address=0x106e --stop-address=0x1070 dial.elf \
+            | sed -n '/():$/d; s/^; [. /]*//p' >got
+        printf '%s\n' examples/lines/dial.c:30 'return turned_by(1);' >wanted
+        check 'the line of C at an address of the image'
+    fi
+    if has mspdebug; then
+        mspdebug -q sim 'prog dial.elf' 'dis 0x106e 2' 2>/dev/null | grep -A1 '^turn' | sed 's/  */ /g; s/ *$//' >got
+        printf '%s\n' 'turn+0x10:' ' 0106e: 8d 12 CALL R13' >wanted
+        check 'the function and instruction that mspdebug finds at an address'
+    fi
 fi
 
 # line_of ENUM NAME FIELD..: a refusal of this kind as the programs tell it.
@@ -237,7 +262,7 @@ grep -A1 -x '#37\|#151\|#236' trace.vcd | grep -v -e '--' >got
 printf '%s\n' '#37' 'b10 m' '#151' 'b0 m' '#236' 'b110010 s' >wanted
 check 'the changes of a trace'
 if [ -x "$lab" ]; then
-    "$here/vcd" steps >got
+    "$here/vcd" walk >got
     cp trace.vcd wanted
     check 'the changes of steps, and those of the trace'
 fi
