@@ -110,4 +110,5 @@ def main():
             one(programs, name, runs, folder)
 
 
-main()
+if __name__ == "__main__":
+    main()
