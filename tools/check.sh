@@ -261,6 +261,11 @@ check 'a line that is no refusal'
 grep -A1 -x '#37\|#151\|#236' trace.vcd | grep -v -e '--' >got
 printf '%s\n' '#37' 'b10 m' '#151' 'b0 m' '#236' 'b110010 s' >wanted
 check 'the changes of a trace'
+pulse=$top/examples/interrupts/pulse_inside.txt
+"$sancus" image "$top/examples/interrupts/called.img" "$pulse" 40 >pulsed
+"$here/vcd" pulsed "$pulse" | sed -n '/^#13$/,/^#25$/p' >got
+printf '%s\n' '#13' 'b0 m' 1h 1p 1l0 '#14' 0l0 '#25' >wanted
+check 'the changes of a trace, and of a line of its schedule'
 if [ -x "$lab" ]; then
     "$here/vcd" walk >got
     cp trace.vcd wanted
