@@ -14,7 +14,9 @@ use Rattle.elf_objects.specs.declared.object.Symbol.{Symbol}
 use Rattle.elf_objects.specs.declared.object.Home.TheVariants as home
 use Rattle.elf_objects.specs.declared.object.SectionHead.{SectionHead}
 use Rattle.elf_objects.specs.declared.object.Relocation.{Relocation}
-use Rattle.elf_objects.specs.Passes.{or_else, refuse_if, first_below, each_below, all_below}
+use Rattle.elf_objects.specs.Passes.{first_below, each_below, all_below}
+use Rattle.std.specs.Option.{option_or}
+use Rattle.std.specs.Bool.{then_some}
 use Rattle.elf_objects.specs.Header.{section_count, name_table, table_fault}
 use Rattle.elf_objects.specs.Section.{header_of, is_absent, section_fault, link_fault, name_table_fault, content, section_faults, link_faults, symbol_table, index_if, is_kept_table, is_kind, is_loaded, is_loaded_header}
 use Rattle.elf_objects.specs.Names.{name_end, name_span, names_header, name_fault, name_faults, section_of, sections_of}
@@ -26,11 +28,11 @@ use Rattle.elf_objects.proofs.ObjectLemmas.{no_sections_lists}
 
 -- ---- passes
 
-or_else_both : {A : Type 0} (a b : Option A) → or_else a b ≡ None → (a ≡ None) × (b ≡ None)
+or_else_both : {A : Type 0} (a b : Option A) → option_or a b ≡ None → (a ≡ None) × (b ≡ None)
 or_else_both None b e = (refl, e)
 or_else_both (Some x) b e = cc
 
-not_refused : (b : Bool) (f : ElfFault) → refuse_if b f ≡ None → b ≡ false
+not_refused : (b : Bool) (f : ElfFault) → then_some b f ≡ None → b ≡ false
 not_refused false f e = refl
 not_refused true f e = cc
 
@@ -44,7 +46,7 @@ unfolding first_below
 below_none f zero i e lt = absurd (omega arith)
 below_none f (suc n) i e lt = below_none_by f n i (cases_lt i n) lt (or_else_both (first_below f n) (f n) e) (below_none f n i)
 
-below_some_by : {A : Type 0} (f : ℕ → Option A) (n : ℕ) (x : A) (o : Option A) → or_else o (f n) ≡ Some x → (o ≡ Some x → (i : ℕ) × (i < n) × (f i ≡ Some x)) → (i : ℕ) × (i < suc n) × (f i ≡ Some x)
+below_some_by : {A : Type 0} (f : ℕ → Option A) (n : ℕ) (x : A) (o : Option A) → option_or o (f n) ≡ Some x → (o ≡ Some x → (i : ℕ) × (i < n) × (f i ≡ Some x)) → (i : ℕ) × (i < suc n) × (f i ≡ Some x)
 below_some_by f n x None e rest = (n, omega arith, e)
 below_some_by f n x (Some y) e rest = let k = rest e in (k.0, omega (arith, k.1), k.2)
 
@@ -89,7 +91,7 @@ contents_sound file e =
     let l = or_else_both _ _ b.0 in
     record { sections = a.0; links = l.0; name_table = l.1; names = c.0; symbols = y.0; relocations = z.0 }
 
-some_sections : (file : List ℕ) (b : Bool) → b ≡ false → cond b None (or_else (table_fault file) (contents_fault file)) ≡ None → contents_fault file ≡ None
+some_sections : (file : List ℕ) (b : Bool) → b ≡ false → cond b None (option_or (table_fault file) (contents_fault file)) ≡ None → contents_fault file ≡ None
 some_sections file true e h = cc
 some_sections file false e h = (or_else_both _ _ h).1
 

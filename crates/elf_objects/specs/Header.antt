@@ -4,7 +4,8 @@ use Rattle.elf_objects.specs.declared.fault.ElfFault.{ElfFault}
 use Rattle.elf_objects.specs.declared.fault.ElfFault.TheVariants as fault
 use Rattle.elf_objects.specs.Bytes.{half_at, long_at}
 use Rattle.elf_objects.specs.Numbers.{file_header_size, relocatable, msp430, current_version, magic, class_32, low_byte_first, section_header_size}
-use Rattle.elf_objects.specs.Passes.{refuse_if, first_of}
+use Rattle.elf_objects.specs.Passes.{first_of}
+use Rattle.std.specs.Bool.{then_some}
 
 -- e_shoff: where the table of section headers starts
 abbrev pub table_offset : List ℕ → ℕ
@@ -21,18 +22,18 @@ name_table file = half_at file 50
 -- the file's own kind: a relocatable object of 32 bits, the low byte first, for the MSP430
 unfoldable pub header_fault : List ℕ → Option ElfFault
 header_fault file = first_of (
-    refuse_if (nat_lt (length file) file_header_size) (fault.Short (length file))
-    ∷ refuse_if (not (long_at file 0 == magic)) fault.Magic
-    ∷ refuse_if (not (slice_index file 4 == class_32)) fault.Class
-    ∷ refuse_if (not (slice_index file 5 == low_byte_first)) fault.Order
-    ∷ refuse_if (not (slice_index file 6 == current_version) || not (long_at file 20 == current_version)) fault.Version
-    ∷ refuse_if (not (half_at file 18 == msp430)) (fault.Machine (half_at file 18))
-    ∷ refuse_if (not (half_at file 16 == relocatable)) (fault.Kind (half_at file 16))
+    then_some (nat_lt (length file) file_header_size) (fault.Short (length file))
+    ∷ then_some (not (long_at file 0 == magic)) fault.Magic
+    ∷ then_some (not (slice_index file 4 == class_32)) fault.Class
+    ∷ then_some (not (slice_index file 5 == low_byte_first)) fault.Order
+    ∷ then_some (not (slice_index file 6 == current_version) || not (long_at file 20 == current_version)) fault.Version
+    ∷ then_some (not (half_at file 18 == msp430)) (fault.Machine (half_at file 18))
+    ∷ then_some (not (half_at file 16 == relocatable)) (fault.Kind (half_at file 16))
     ∷ [])
 
 -- the table of section headers: entries of a header's size, in the file
 unfoldable pub table_fault : List ℕ → Option ElfFault
 table_fault file = first_of (
-    refuse_if (not (half_at file 46 == section_header_size)) (fault.HeaderSize (half_at file 46))
-    ∷ refuse_if (nat_lt (length file) (table_offset file + section_header_size * section_count file)) (fault.Short (length file))
+    then_some (not (half_at file 46 == section_header_size)) (fault.HeaderSize (half_at file 46))
+    ∷ then_some (nat_lt (length file) (table_offset file + section_header_size * section_count file)) (fault.Short (length file))
     ∷ [])

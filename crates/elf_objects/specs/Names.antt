@@ -6,7 +6,8 @@ use Rattle.elf_objects.specs.declared.fault.ElfFault.TheVariants as fault
 use Rattle.elf_objects.specs.declared.section.Header.{Header}
 use Rattle.elf_objects.specs.declared.object.Span.{Span}
 use Rattle.elf_objects.specs.declared.object.SectionHead.{SectionHead}
-use Rattle.elf_objects.specs.Passes.{refuse_if, first_below, each_below}
+use Rattle.elf_objects.specs.Passes.{first_below, each_below}
+use Rattle.std.specs.Bool.{then_some}
 use Rattle.elf_objects.specs.Header.{section_count, name_table}
 use Rattle.elf_objects.specs.Section.{header_of, content, content_span}
 
@@ -29,7 +30,7 @@ names_header file = header_of file (name_table file)
 
 -- at an index: the name does not start or does not end in the table
 unfoldable pub name_fault : List ℕ → ℕ → Option ElfFault
-name_fault file i = refuse_if (is_none (name_end file (names_header file) (header_of file i).name)) (fault.Name i)
+name_fault file i = then_some (is_none (name_end file (names_header file) (header_of file i).name)) (fault.Name i)
 
 unfoldable pub name_faults : List ℕ → Option ElfFault
 name_faults file = first_below (name_fault file) (section_count file)

@@ -7,7 +7,8 @@ use Rattle.elf_objects.specs.declared.object.Symbol.{Symbol}
 use Rattle.elf_objects.specs.declared.object.Home.{Home}
 use Rattle.elf_objects.specs.declared.object.Home.TheVariants as home
 use Rattle.elf_objects.specs.declared.object.Relocation.{Relocation}
-use Rattle.elf_objects.specs.Passes.{first_of, or_else}
+use Rattle.elf_objects.specs.Passes.{first_of}
+use Rattle.std.specs.Option.{option_or}
 use Rattle.elf_objects.specs.Header.{section_count, header_fault, table_fault}
 use Rattle.elf_objects.specs.Section.{is_loaded, section_faults, link_faults, compressed_faults, rel_faults}
 use Rattle.elf_objects.specs.Names.{name_faults, sections_of}
@@ -28,8 +29,8 @@ contents_fault file = first_of (
 
 -- the first refusal of a file, if there is one; a file with no sections has nothing past its header to refuse
 unfoldable pub elf_fault_of : List ℕ → Option ElfFault
-elf_fault_of file = or_else (header_fault file)
-    (if section_count file == 0 then None else or_else (table_fault file) (contents_fault file))
+elf_fault_of file = option_or (header_fault file)
+    (if section_count file == 0 then None else option_or (table_fault file) (contents_fault file))
 
 -- an object without where it lies in memory
 pub record ObjectValue : Type 0 where

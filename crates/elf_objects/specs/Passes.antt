@@ -1,20 +1,18 @@
--- The order of refusals: some conditions one after another, some at each index. `refuse_if` is a refusal where its
--- condition holds, and `or_else` the first one, else the other.
+-- The order of refusals: some conditions one after another, some at each index.
 use Rattle.std.specs.Prelude.{◌≡◌, ◌≢◌, ℕ, zero, suc, List, [], ◌∷◌, ◌++◌, Option, Some, None, Result, Ok, Err}
 use Rattle.elf_objects.specs.declared.fault.ElfFault.{ElfFault}
 use Rattle.elf_objects.specs.declared.fault.ElfFault.TheVariants as fault
-pub use Rattle.std.specs.Bool.{then_some as refuse_if}
-pub use Rattle.std.specs.Option.{option_or as or_else}
+use Rattle.std.specs.Option.{option_or}
 
 -- the first refusal of a list
 abbrev pub first_of : {F : Type 0} → List (Option F) → Option F
 first_of [] = None
-first_of (fault ∷ others) = or_else fault (first_of others)
+first_of (fault ∷ others) = option_or fault (first_of others)
 
 -- what the lowest index below a count gives that gives something
 unfoldable pub first_below : {A : Type 0} → (ℕ → Option A) → ℕ → Option A
 first_below found_at zero = None
-first_below found_at (suc n) = or_else (first_below found_at n) (found_at n)
+first_below found_at (suc n) = option_or (first_below found_at n) (found_at n)
 
 -- a value for each index below a count
 unfoldable pub each_below : {A : Type 0} → (ℕ → A) → ℕ → List A

@@ -7,7 +7,8 @@ use Rattle.elf_objects.specs.declared.section.Header.{Header}
 use Rattle.elf_objects.specs.declared.object.Relocation.{Relocation}
 use Rattle.elf_objects.specs.Bytes.{long_at}
 use Rattle.elf_objects.specs.Numbers.{relocation_size}
-use Rattle.elf_objects.specs.Passes.{refuse_if, first_below, each_below, all_below}
+use Rattle.elf_objects.specs.Passes.{first_below, each_below, all_below}
+use Rattle.std.specs.Bool.{then_some}
 use Rattle.elf_objects.specs.Header.{section_count}
 use Rattle.elf_objects.specs.Section.{header_of, is_kept_table}
 use Rattle.elf_objects.specs.Symbol.{count_of, symbols_header}
@@ -27,7 +28,7 @@ relocation_of file index table entry = let at = table.offset + relocation_size *
 -- at one entry: with so many symbols in all
 unfoldable pub entry_fault : List ℕ → ℕ → ℕ → Header → ℕ → Option ElfFault
 entry_fault file symbols index table entry =
-    refuse_if (not (nat_lt ((relocation_of file index table entry).symbol) symbols)) (fault.Relocation index entry)
+    then_some (not (nat_lt ((relocation_of file index table entry).symbol) symbols)) (fault.Relocation index entry)
 
 -- at one section
 unfoldable pub relocation_fault : List ℕ → ℕ → ℕ → Option ElfFault

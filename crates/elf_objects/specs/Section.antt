@@ -9,7 +9,8 @@ use Rattle.elf_objects.specs.declared.section.Header.{Header}
 use Rattle.elf_objects.specs.declared.object.Span.{Span}
 use Rattle.elf_objects.specs.Bytes.{long_at}
 use Rattle.elf_objects.specs.Numbers.{section_header_size, null, symtab, strtab, rela, nobits, rel, alloc_flag, compressed_flag, has_flag, symbol_size, relocation_size}
-use Rattle.elf_objects.specs.Passes.{refuse_if, or_else, first_below}
+use Rattle.elf_objects.specs.Passes.{first_below}
+use Rattle.std.specs.Option.{option_or}
 use Rattle.elf_objects.specs.Header.{table_offset, section_count, name_table}
 
 -- the header of this index, the fields that are looked at
@@ -52,7 +53,7 @@ ends_past file h = nat_lt (length file) (h.offset + h.size)
 -- at an index: bytes past the file, or a loaded section whose alignment is none
 unfoldable pub section_fault : List ℕ → ℕ → Option ElfFault
 section_fault file i = let h = header_of file i in
-    refuse_if ((not (is_absent h) && ends_past file h) || (is_loaded_header h && not (is_alignment h.align))) (fault.Section i)
+    then_some ((not (is_absent h) && ends_past file h) || (is_loaded_header h && not (is_alignment h.align))) (fault.Section i)
 
 -- a section of this index and kind is there
 abbrev pub is_kind : List ℕ → ℕ → ℕ → Bool
@@ -90,21 +91,21 @@ is_bad_link file i h =
 
 -- at an index: what it points to is not what it must be
 unfoldable pub link_fault : List ℕ → ℕ → Option ElfFault
-link_fault file i = refuse_if (is_bad_link file i (header_of file i)) (fault.Link i)
+link_fault file i = then_some (is_bad_link file i (header_of file i)) (fault.Link i)
 
 -- no section has the name table's index
 unfoldable pub name_table_fault : List ℕ → Option ElfFault
-name_table_fault file = refuse_if (not (nat_lt (name_table file) (section_count file))) (fault.Link (name_table file))
+name_table_fault file = then_some (not (nat_lt (name_table file) (section_count file))) (fault.Link (name_table file))
 
 -- at an index: a loaded section with the flag compressed
 unfoldable pub compressed_fault : List ℕ → ℕ → Option ElfFault
 compressed_fault file i = let h = header_of file i in
-    refuse_if (is_loaded_header h && has_flag h.flags compressed_flag) (fault.Compressed i)
+    then_some (is_loaded_header h && has_flag h.flags compressed_flag) (fault.Compressed i)
 
 -- at an index: a REL of a loaded section
 unfoldable pub rel_fault : List ℕ → ℕ → Option ElfFault
 rel_fault file i = let h = header_of file i in
-    refuse_if (h.kind == rel && is_loaded_header (header_of file h.info)) (fault.RelSection i)
+    then_some (h.kind == rel && is_loaded_header (header_of file h.info)) (fault.RelSection i)
 
 -- what is given of a section's bytes
 abbrev pub content_span : Header → Span
@@ -115,7 +116,7 @@ unfoldable pub section_faults : List ℕ → Option ElfFault
 section_faults file = first_below (section_fault file) (section_count file)
 
 unfoldable pub link_faults : List ℕ → Option ElfFault
-link_faults file = or_else (first_below (link_fault file) (section_count file)) (name_table_fault file)
+link_faults file = option_or (first_below (link_fault file) (section_count file)) (name_table_fault file)
 
 unfoldable pub compressed_faults : List ℕ → Option ElfFault
 compressed_faults file = first_below (compressed_fault file) (section_count file)

@@ -12,7 +12,8 @@ use Rattle.elf_objects.specs.declared.object.Home.{Home}
 use Rattle.elf_objects.specs.declared.object.Home.TheVariants as home
 use Rattle.elf_objects.specs.Bytes.{half_at, long_at}
 use Rattle.elf_objects.specs.Numbers.{undefined_index, absolute_index, common_index, symbol_size, local_binding, weak_binding}
-use Rattle.elf_objects.specs.Passes.{refuse_if, first_below, each_below}
+use Rattle.elf_objects.specs.Passes.{first_below, each_below}
+use Rattle.std.specs.Bool.{then_some}
 use Rattle.elf_objects.specs.Header.{section_count}
 use Rattle.elf_objects.specs.Section.{header_of, symbol_table, is_alignment}
 use Rattle.elf_objects.specs.Names.{name_end, name_span}
@@ -49,7 +50,7 @@ is_bad_symbol file table e =
 -- at an index, from 1 on
 unfoldable pub symbol_fault : List ℕ → Header → ℕ → Option ElfFault
 symbol_fault file table zero = None
-symbol_fault file table (suc k) = refuse_if (is_bad_symbol file table (table_entry file table (suc k))) (fault.Symbol (suc k))
+symbol_fault file table (suc k) = then_some (is_bad_symbol file table (table_entry file table (suc k))) (fault.Symbol (suc k))
 
 abbrev pub binding_of : ℕ → Binding
 binding_of zero = binding.Local

@@ -1,13 +1,14 @@
 //! Refusals at each index.
 
 ghost use Rattle.std.specs.Prelude.{◌≡◌, ◌<◌, ℕ, Option};
-ghost use Rattle.elf_objects.specs.Passes.{refuse_if, first_below, FaultIs};
+ghost use Rattle.elf_objects.specs.Passes.{first_below, FaultIs};
+ghost use Rattle.std.specs.Bool.{then_some};
 ghost use Rattle.elf_objects.specs.internal.Passes.{FindsBelow};
 
 use crate::fault::ElfFault;
 
 pub fn refuse_if(refused: bool, fault: ElfFault) -> Option<ElfFault>
-    ensures { result ≡ refuse_if refused fault }
+    ensures { result ≡ then_some refused fault }
 {
     if refused { Some(fault) } else { None }
 }

@@ -7,7 +7,8 @@ use Rattle.std.proofs.lemmas.List.{length-map, map-append}
 use Rattle.std.proofs.lemmas.Option.{same_Some}
 use Rattle.link_symbols.specs.declared.item.Item.{Item}
 use Rattle.link_symbols.specs.declared.names.Names.{Names}
-use Rattle.link_symbols.specs.Passes.{or_else, some_if}
+use Rattle.link_symbols.specs.Passes.{some_if}
+use Rattle.std.specs.Option.{option_or}
 use Rattle.link_symbols.specs.Commons.{Common, commons_with, common_at, common_item, some_item, with_symbol}
 use Rattle.link_symbols.specs.internal.Values.{joined_item}
 use Rattle.link_symbols.specs.internal.Maps.{HoldsCommons, name_entry, Notes}
@@ -29,7 +30,7 @@ some_none a e = cc
 
 -- a common of a name that none of these has comes last
 joined_new_by : (n : ℕ) (d : Common) (ds : List Common) (c : Common) (b : Bool) → bytes_eq d.name c.name ≡ b →
-    or_else (some_if b (Some n)) (common_at (n + 1) ds c.name) ≡ None →
+    option_or (some_if b (Some n)) (common_at (n + 1) ds c.name) ≡ None →
     (common_at (n + 1) ds c.name ≡ None → commons_with ds c ≡ ds ++ c ∷ []) → commons_with (d ∷ ds) c ≡ d ∷ (ds ++ c ∷ [])
 joined_new_by n d ds c true q e ih = some_none n e
 joined_new_by n d ds c false q e ih = joined_other d ds c q ∙ ap (λ l. d ∷ l) (ih e)
@@ -40,10 +41,10 @@ joined_new n [] c e = refl
 joined_new n (d ∷ ds) c e = joined_new_by n d ds c (bytes_eq d.name c.name) refl e (joined_new (n + 1) ds c)
 
 pub common_at_append : (n : ℕ) (cs : List Common) (c : Common) (q : List ℕ) →
-    common_at n (cs ++ c ∷ []) q ≡ or_else (common_at n cs q) (some_if (bytes_eq c.name q) (Some (n + length cs)))
+    common_at n (cs ++ c ∷ []) q ≡ option_or (common_at n cs q) (some_if (bytes_eq c.name q) (Some (n + length cs)))
 common_at_append n [] c q = or_else_none (some_if (bytes_eq c.name q) (Some n)) ∙ ap (λ k. some_if (bytes_eq c.name q) (Some k)) (omega arith)
 common_at_append n (d ∷ ds) c q =
-    ap (or_else (some_if (bytes_eq d.name q) (Some n))) (common_at_append (n + 1) ds c q ∙ ap (λ k. or_else (common_at (n + 1) ds q) (some_if (bytes_eq c.name q) (Some k))) (omega arith))
+    ap (option_or (some_if (bytes_eq d.name q) (Some n))) (common_at_append (n + 1) ds c q ∙ ap (λ k. option_or (common_at (n + 1) ds q) (some_if (bytes_eq c.name q) (Some k))) (omega arith))
     ∙ sym (or_else_assoc (some_if (bytes_eq d.name q) (Some n)) (common_at (n + 1) ds q) (some_if (bytes_eq c.name q) (Some (n + length (d ∷ ds)))))
 
 -- a common of the name of the item with this number is joined with it
@@ -69,11 +70,11 @@ joins_later n number d ds c front q e j = record {
   items = ap (λ l. front ++ map common_item l) (joined_other d ds c q)
       ∙ (sym (append_assoc front (common_item d ∷ []) (map common_item (commons_with ds c)))
       ∙ (j.items ∙ ap (λ l. set l number (joined_item (get_or l number some_item) c.size c.align)) (append_assoc front (common_item d ∷ []) (map common_item ds))));
-  numbers = λ p. ap (λ l. common_at n l p) (joined_other d ds c q) ∙ ap (or_else (some_if (bytes_eq d.name p) (Some n))) (j.numbers p);
+  numbers = λ p. ap (λ l. common_at n l p) (joined_other d ds c q) ∙ ap (option_or (some_if (bytes_eq d.name p) (Some n))) (j.numbers p);
 }
 
 joined_known_by : (n number : ℕ) (d : Common) (ds : List Common) (c : Common) (front : List Item) (b : Bool) → bytes_eq d.name c.name ≡ b → length front ≡ n →
-    or_else (some_if b (Some n)) (common_at (n + 1) ds c.name) ≡ Some number →
+    option_or (some_if b (Some n)) (common_at (n + 1) ds c.name) ≡ Some number →
     (common_at (n + 1) ds c.name ≡ Some number → Joins (n + 1) ds c number (front ++ common_item d ∷ [])) → Joins n (d ∷ ds) c number front
 joined_known_by n number d ds c front true q e k ih = subst (λ m. Joins n (d ∷ ds) c m front) (same_Some n number k) (joins_same n d ds c front q e)
 joined_known_by n number d ds c front false q e k ih = joins_later n number d ds c front q e (ih k)
@@ -110,8 +111,8 @@ holds_new old new items after sections cs c h e noted made =
     let size : length items ≡ length sections + length cs = omega (arith, ap length h.items_are, length-append sections (map common_item cs), length-map cs common_item) in
     record {
       items_are = made ∙ (ap (λ l. l ++ common_item c ∷ []) h.items_are ∙ (append_assoc sections (map common_item cs) (common_item c ∷ []) ∙ (ap (λ l. sections ++ l) (sym (map-append common_item cs (c ∷ []))) ∙ ap (λ l. sections ++ map common_item l) (sym n))));
-      numbers = λ q. noted q ∙ (ap (λ o. or_else o (some_if (bytes_eq c.name q) (Some (length items)))) (h.numbers q)
-          ∙ (ap (λ k. or_else (common_at (length sections) cs q) (some_if (bytes_eq c.name q) (Some k))) size
+      numbers = λ q. noted q ∙ (ap (λ o. option_or o (some_if (bytes_eq c.name q) (Some (length items)))) (h.numbers q)
+          ∙ (ap (λ k. option_or (common_at (length sections) cs q) (some_if (bytes_eq c.name q) (Some k))) size
           ∙ (sym (common_at_append (length sections) cs c q) ∙ ap (λ l. common_at (length sections) l q) (sym n))));
     }
 

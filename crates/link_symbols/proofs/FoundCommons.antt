@@ -12,7 +12,8 @@ use Rattle.elf_objects.specs.Object.{ObjectValue}
 use Rattle.link_symbols.specs.Commons.{Common, commons_of, commons_with, commons_with_if, common_at, with_common, with_symbol}
 use Rattle.link_symbols.specs.Definitions.{strong_of}
 use Rattle.link_symbols.specs.CommonNames.{common_name}
-use Rattle.link_symbols.specs.Passes.{or_else, some_if}
+use Rattle.link_symbols.specs.Passes.{some_if}
+use Rattle.std.specs.Option.{option_or}
 use Rattle.link_symbols.specs.Symbols.{NamedValue, named_symbols}
 use Rattle.link_symbols.specs.internal.Founds.{is_common, is_common_by, with_name, FoundSoFar}
 use Rattle.link_symbols.specs.internal.Maps.{name_entry}
@@ -32,25 +33,25 @@ known_by d ds c false q ih = rw q (ap (λ l. d.name ∷ l) (ih refl))
 pub known_names : (n k : ℕ) (cs : List Common) (c : Common) → common_at n cs c.name ≡ Some k → map common_name (commons_with cs c) ≡ map common_name cs
 known_names n k [] c e = some_none k (sym e)
 known_names n k (d ∷ ds) c e = known_by d ds c (bytes_eq d.name c.name) refl
-    (λ q. known_names (n + 1) k ds c (subst (λ b. or_else (some_if b (Some n)) (common_at (n + 1) ds c.name) ≡ Some k) q e))
+    (λ q. known_names (n + 1) k ds c (subst (λ b. option_or (some_if b (Some n)) (common_at (n + 1) ds c.name) ≡ Some k) q e))
 
 -- nor any number
 same_by : (n : ℕ) (d : Common) (ds : List Common) (c : Common) (q : List ℕ) (b : Bool) → bytes_eq d.name c.name ≡ b →
     (b ≡ false → common_at (n + 1) (commons_with ds c) q ≡ common_at (n + 1) ds q) → common_at n (commons_with (d ∷ ds) c) q ≡ common_at n (d ∷ ds) q
 unfolding commons_with
 same_by n d ds c q true e ih = rw e refl
-same_by n d ds c q false e ih = rw e (ap (or_else (some_if (bytes_eq d.name q) (Some n))) (ih refl))
+same_by n d ds c q false e ih = rw e (ap (option_or (some_if (bytes_eq d.name q) (Some n))) (ih refl))
 
 pub same_numbers : (n k : ℕ) (cs : List Common) (c : Common) (q : List ℕ) → common_at n cs c.name ≡ Some k → common_at n (commons_with cs c) q ≡ common_at n cs q
 same_numbers n k [] c q e = some_none k (sym e)
 same_numbers n k (d ∷ ds) c q e = same_by n d ds c q (bytes_eq d.name c.name) refl
-    (λ f. same_numbers (n + 1) k ds c q (subst (λ b. or_else (some_if b (Some n)) (common_at (n + 1) ds c.name) ≡ Some k) f e))
+    (λ f. same_numbers (n + 1) k ds c q (subst (λ b. option_or (some_if b (Some n)) (common_at (n + 1) ds c.name) ≡ Some k) f e))
 
 -- a name that has a number keeps it
 keeps_with : (n k : ℕ) (cs : List Common) (c : Common) (q : List ℕ) (o : Option ℕ) → common_at n cs c.name ≡ o → common_at n cs q ≡ Some k → common_at n (commons_with cs c) q ≡ Some k
 keeps_with n k cs c q (Some j) e h = same_numbers n j cs c q e ∙ h
 keeps_with n k cs c q None e h =
-    ap (λ l. common_at n l q) (joined_new n cs c e) ∙ (common_at_append n cs c q ∙ ap (λ o. or_else o (some_if (bytes_eq c.name q) (Some (n + length cs)))) h)
+    ap (λ l. common_at n l q) (joined_new n cs c e) ∙ (common_at_append n cs c q ∙ ap (λ o. option_or o (some_if (bytes_eq c.name q) (Some (n + length cs)))) h)
 
 keeps_if : (n k : ℕ) (d : Option Definition) (cs : List Common) (c : Common) (q : List ℕ) → common_at n cs q ≡ Some k → common_at n (commons_with_if d cs c) q ≡ Some k
 keeps_if n k None cs c q h = keeps_with n k cs c q (common_at n cs c.name) refl h
@@ -65,7 +66,7 @@ keeps n k strong cs [] q h = h
 keeps n k strong cs (s ∷ rest) q h = keeps n k strong (with_symbol strong cs s) rest q (keeps_symbol n k strong cs s s.what q h)
 
 -- a number is one of those from the first on
-below_by : (n k m : ℕ) (b : Bool) (o : Option ℕ) → or_else (some_if b (Some n)) o ≡ Some k → 0 < m → (o ≡ Some k → k < n + m) → k < n + m
+below_by : (n k m : ℕ) (b : Bool) (o : Option ℕ) → option_or (some_if b (Some n)) o ≡ Some k → 0 < m → (o ≡ Some k → k < n + m) → k < n + m
 below_by n k m true o e p ih = let same : n ≡ k = cc in omega arith
 below_by n k m false o e p ih = ih e
 
@@ -100,7 +101,7 @@ module _ (names : Names) (first : ℕ) (all : List Common) (numbers : (q : List 
       let made : commons_with now c ≡ now ++ c ∷ [] = joined_new first now c e in
       let number : common_at first (commons_with now c) c.name ≡ Some (first + length now) =
       ap (λ l. common_at first l c.name) made ∙ (common_at_append first now c c.name
-      ∙ (ap (λ o. or_else o (some_if (bytes_eq c.name c.name) (Some (first + length now)))) e
+      ∙ (ap (λ o. option_or o (some_if (bytes_eq c.name c.name) (Some (first + length now)))) e
       ∙ ap (λ t. some_if t (Some (first + length now))) ((bytes_eq-Decides c.name c.name).1 refl))) in
       let kept : common_at first all c.name ≡ Some (first + length now) = ap (λ l. common_at first l c.name) same ∙ keeps first (first + length now) strong (commons_with now c) rest c.name number in
       let n : length found ≡ length now = ap length named ∙ length-map now common_name in

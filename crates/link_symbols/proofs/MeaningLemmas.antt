@@ -6,7 +6,8 @@ use Rattle.elf_objects.specs.Object.{ObjectValue}
 use Rattle.elf_objects.specs.declared.object.Relocation.{Relocation}
 use Rattle.elf_objects.specs.declared.object.Symbol.{Symbol}
 use Rattle.link_symbols.specs.declared.symbol.Meaning.{Meaning}
-use Rattle.link_symbols.specs.Passes.{or_else, first_at, map_at, NumberedObject, numbered_objects_from}
+use Rattle.link_symbols.specs.Passes.{first_at, map_at, NumberedObject, numbered_objects_from}
+use Rattle.std.specs.Option.{option_or}
 use Rattle.link_symbols.specs.Resolved.{meaning_at, meanings_in, meanings_of}
 use Rattle.link_symbols.specs.Names.{stands_for}
 use Rattle.link_symbols.specs.internal.Meanings.{listed_meanings, all_stand, gap_if, gap_at}
@@ -24,13 +25,13 @@ pub no_gaps : (number : ℕ) (relocations : List Relocation) (i : ℕ) (ms : Lis
 no_gaps number relocations i [] e = refl
 no_gaps number relocations i (None ∷ ms) e = cc
 no_gaps number relocations i (Some m ∷ ms) e =
-    ap (λ o. or_else o (first_at (gap_at number relocations) (i + 1) ms)) (gap_some (is_used relocations i) number i m) ∙ no_gaps number relocations (i + 1) ms e
+    ap (λ o. option_or o (first_at (gap_at number relocations) (i + 1) ms)) (gap_some (is_used relocations i) number i m) ∙ no_gaps number relocations (i + 1) ms e
 
 pub gaps_are : (names : List ℕ → Option Meaning) (x : NumberedObject) (i : ℕ) (ss : List Symbol) →
     first_at (gap_at x.number x.object.relocations) i (map_at (meaning_at names x) i ss) ≡ first_at (undefined_at names x) i ss
 unfolding undefined_at
 gaps_are names x i [] = refl
-gaps_are names x i (s ∷ ss) = ap (or_else (undefined_at names x i s)) (gaps_are names x (i + 1) ss)
+gaps_are names x i (s ∷ ss) = ap (option_or (undefined_at names x i s)) (gaps_are names x (i + 1) ss)
 
 pub length_at : {X A : Type 0} (f : ℕ → X → A) (i : ℕ) (xs : List X) → length (map_at f i xs) ≡ length xs
 length_at f i [] = refl

@@ -6,7 +6,8 @@ use Rattle.link_symbols.specs.declared.names.Definition.{Definition}
 use Rattle.link_symbols.specs.declared.symbol.Meaning.{Meaning}
 use Rattle.link_symbols.specs.declared.names.Names.{Names}
 use Rattle.link_symbols.specs.declared.fault.LinkFault.{LinkFault}
-use Rattle.link_symbols.specs.Passes.{or_else, some_if, first_in, IsLinkFaultOf}
+use Rattle.link_symbols.specs.Passes.{some_if, first_in, IsLinkFaultOf}
+use Rattle.std.specs.Option.{option_or}
 use Rattle.link_symbols.specs.Refusals.{duplicate, duplicate_of}
 use Rattle.link_symbols.specs.Symbols.{NamedValue}
 use Rattle.link_symbols.specs.Definitions.{definition, definition_of, strong_by, weak_by, strong_of, weak_of, if_named, is_global}
@@ -15,7 +16,7 @@ use Rattle.link_symbols.proofs.Steps.{or_else_none, or_else_assoc}
 
 -- a name that is not there is noted
 pub note_new : {A : Type 0} (old : List ℕ → Option A) (name q : List ℕ) (a : A) (b : Bool) → bytes_eq name q ≡ b → old name ≡ None →
-    cond b (Some a) (old q) ≡ or_else (old q) (some_if b (Some a))
+    cond b (Some a) (old q) ≡ option_or (old q) (some_if b (Some a))
 note_new old name q a true e none =
     let same : name ≡ q = (bytes_eq-Decides name q).0 e in
     let o : old q ≡ None = ap old (sym same) ∙ none in
@@ -26,17 +27,17 @@ kept_none : {A : Type 0} (b : Bool) → some_if {A = A} b None ≡ None
 kept_none true = refl
 kept_none false = refl
 
-pub first_in_append : {X A : Type 0} (f : X → Option A) (xs ys : List X) → first_in f (xs ++ ys) ≡ or_else (first_in f xs) (first_in f ys)
+pub first_in_append : {X A : Type 0} (f : X → Option A) (xs ys : List X) → first_in f (xs ++ ys) ≡ option_or (first_in f xs) (first_in f ys)
 first_in_append f [] ys = refl
-first_in_append f (x ∷ xs) ys = ap (or_else (f x)) (first_in_append f xs ys) ∙ sym (or_else_assoc (f x) (first_in f xs) (first_in f ys))
+first_in_append f (x ∷ xs) ys = ap (option_or (f x)) (first_in_append f xs ys) ∙ sym (or_else_assoc (f x) (first_in f xs) (first_in f ys))
 
-pub strong_more : (before : List NamedValue) (s : NamedValue) (q : List ℕ) → strong_of (before ++ s ∷ []) q ≡ or_else (strong_of before q) (some_if (bytes_eq s.name q) (strong_by s))
+pub strong_more : (before : List NamedValue) (s : NamedValue) (q : List ℕ) → strong_of (before ++ s ∷ []) q ≡ option_or (strong_of before q) (some_if (bytes_eq s.name q) (strong_by s))
 unfolding strong_of
-strong_more before s q = first_in_append (λ t. if_named q t (strong_by t)) before (s ∷ []) ∙ ap (or_else (first_in (λ t. if_named q t (strong_by t)) before)) (or_else_none (some_if (bytes_eq s.name q) (strong_by s)))
+strong_more before s q = first_in_append (λ t. if_named q t (strong_by t)) before (s ∷ []) ∙ ap (option_or (first_in (λ t. if_named q t (strong_by t)) before)) (or_else_none (some_if (bytes_eq s.name q) (strong_by s)))
 
-pub weak_more : (before : List NamedValue) (s : NamedValue) (q : List ℕ) → weak_of (before ++ s ∷ []) q ≡ or_else (weak_of before q) (some_if (bytes_eq s.name q) (weak_by s))
+pub weak_more : (before : List NamedValue) (s : NamedValue) (q : List ℕ) → weak_of (before ++ s ∷ []) q ≡ option_or (weak_of before q) (some_if (bytes_eq s.name q) (weak_by s))
 unfolding weak_of
-weak_more before s q = first_in_append (λ t. if_named q t (weak_by t)) before (s ∷ []) ∙ ap (or_else (first_in (λ t. if_named q t (weak_by t)) before)) (or_else_none (some_if (bytes_eq s.name q) (weak_by s)))
+weak_more before s q = first_in_append (λ t. if_named q t (weak_by t)) before (s ∷ []) ∙ ap (option_or (first_in (λ t. if_named q t (weak_by t)) before)) (or_else_none (some_if (bytes_eq s.name q) (weak_by s)))
 
 -- ---- symbols one after another
 
@@ -81,8 +82,8 @@ firsts_more weak [] s (p ∷ os) o is f = absurd f
 firsts_more weak (t ∷ ss) s [] o is f = absurd f
 firsts_more weak (t ∷ ss) s (p ∷ os) o is f = (f.0, firsts_more weak ss s os o is f.1)
 
-pub kept_some : {A : Type 0} (old new more : Option A) (a : A) → new ≡ or_else old more → old ≡ Some a → new ≡ Some a
-kept_some old new more a e is = e ∙ ap (λ o. or_else o more) is
+pub kept_some : {A : Type 0} (old new more : Option A) (a : A) → new ≡ option_or old more → old ≡ Some a → new ≡ Some a
+kept_some old new more a e is = e ∙ ap (λ o. option_or o more) is
 
 pub none_first : (weak : List ℕ → Option Meaning) (s : NamedValue) → IsFirst weak s None
 none_first weak s = λ m e. cc
@@ -93,26 +94,26 @@ some_first weak s a is = λ m e. is ∙ e
 -- what the maps have after a symbol more
 pub holds_more : (old new : Names) (before : List NamedValue) (s : NamedValue) (d : Option Definition) (w : Option Meaning) →
     strong_by s ≡ d → weak_by s ≡ w →
-    ((q : List ℕ) → name_entry new.strong q ≡ or_else (name_entry old.strong q) (some_if (bytes_eq s.name q) d)) →
-    ((q : List ℕ) → name_entry new.weak q ≡ or_else (name_entry old.weak q) (some_if (bytes_eq s.name q) w)) →
+    ((q : List ℕ) → name_entry new.strong q ≡ option_or (name_entry old.strong q) (some_if (bytes_eq s.name q) d)) →
+    ((q : List ℕ) → name_entry new.weak q ≡ option_or (name_entry old.weak q) (some_if (bytes_eq s.name q) w)) →
     (o : Option Meaning) → IsFirst (name_entry new.weak) s o → new.firsts.items ≡ old.firsts.items ++ o ∷ [] →
     HoldsNames old before → HoldsNames new (before ++ s ∷ [])
 holds_more old new before s d w ds ws strong weak o is pushed h = record {
-  strong = λ q. strong q ∙ (ap (λ o. or_else o (some_if (bytes_eq s.name q) d)) (h.strong q) ∙ (ap (λ o. or_else (strong_of before q) (some_if (bytes_eq s.name q) o)) (sym ds) ∙ sym (strong_more before s q)));
-  weak = λ q. weak q ∙ (ap (λ o. or_else o (some_if (bytes_eq s.name q) w)) (h.weak q) ∙ (ap (λ o. or_else (weak_of before q) (some_if (bytes_eq s.name q) o)) (sym ws) ∙ sym (weak_more before s q)));
+  strong = λ q. strong q ∙ (ap (λ o. option_or o (some_if (bytes_eq s.name q) d)) (h.strong q) ∙ (ap (λ o. option_or (strong_of before q) (some_if (bytes_eq s.name q) o)) (sym ds) ∙ sym (strong_more before s q)));
+  weak = λ q. weak q ∙ (ap (λ o. option_or o (some_if (bytes_eq s.name q) w)) (h.weak q) ∙ (ap (λ o. option_or (weak_of before q) (some_if (bytes_eq s.name q) o)) (sym ws) ∙ sym (weak_more before s q)));
   firsts = subst (λ (os : List (Option Meaning)). AreFirsts (name_entry new.weak) (before ++ s ∷ []) os) (sym pushed)
       (firsts_more (name_entry new.weak) before s old.firsts.items o is
       (firsts_stay (name_entry old.weak) (name_entry new.weak) before old.firsts.items (λ q m e. kept_some (name_entry old.weak q) (name_entry new.weak q) (some_if (bytes_eq s.name q) w) m (weak q) e) h.firsts));
 }
 
-pub stays : {A : Type 0} (o : Option A) (b : Bool) → o ≡ or_else o (some_if b None)
-stays o b = sym (ap (or_else o) (kept_none b) ∙ or_else_none o)
+pub stays : {A : Type 0} (o : Option A) (b : Bool) → o ≡ option_or o (some_if b None)
+stays o b = sym (ap (option_or o) (kept_none b) ∙ or_else_none o)
 
-pub duplicate_append : (before xs ys : List NamedValue) → duplicate before (xs ++ ys) ≡ or_else (duplicate before xs) (duplicate (before ++ xs) ys)
+pub duplicate_append : (before xs ys : List NamedValue) → duplicate before (xs ++ ys) ≡ option_or (duplicate before xs) (duplicate (before ++ xs) ys)
 unfolding duplicate
 duplicate_append before [] ys = ap (λ b. duplicate b ys) (sym (append-nil before))
 duplicate_append before (x ∷ xs) ys =
-    ap (or_else (duplicate_of before x)) (duplicate_append (before ++ x ∷ []) xs ys ∙ ap (λ b. or_else (duplicate (before ++ x ∷ []) xs) (duplicate b ys)) (append_assoc before (x ∷ []) xs))
+    ap (option_or (duplicate_of before x)) (duplicate_append (before ++ x ∷ []) xs ys ∙ ap (λ b. option_or (duplicate (before ++ x ∷ []) xs) (duplicate b ys)) (append_assoc before (x ∷ []) xs))
     ∙ sym (or_else_assoc (duplicate_of before x) (duplicate (before ++ x ∷ []) xs) (duplicate (before ++ (x ∷ xs)) ys))
 
 pub duplicate_one : (before : List NamedValue) (s : NamedValue) → duplicate before (s ∷ []) ≡ duplicate_of before s
@@ -133,13 +134,13 @@ reached_more old new before symbols xs rest r noted sound = record {
   now = r.now ++ xs;
   holds = noted r.now r.holds;
   whole = append_assoc r.now xs rest ∙ r.whole;
-  same = r.same ∙ (duplicate_append r.now xs rest ∙ ap (λ o. or_else o (duplicate (r.now ++ xs) rest)) (sound r.now r.holds));
+  same = r.same ∙ (duplicate_append r.now xs rest ∙ ap (λ o. option_or o (duplicate (r.now ++ xs) rest)) (sound r.now r.holds));
 }
 
 pub reached_hit : (names : Names) (before symbols xs rest : List NamedValue) (f : LinkFault) → Reached names before symbols (xs ++ rest) →
     ((now : List NamedValue) → HoldsNames names now → IsLinkFaultOf (duplicate now xs) f) → IsLinkFaultOf (duplicate before symbols) f
 reached_hit names before symbols xs rest f r hit = λ ne.
-    r.same ∙ (duplicate_append r.now xs rest ∙ ap (λ o. or_else o (duplicate (r.now ++ xs) rest)) (hit r.now r.holds ne))
+    r.same ∙ (duplicate_append r.now xs rest ∙ ap (λ o. option_or o (duplicate (r.now ++ xs) rest)) (hit r.now r.holds ne))
 
 pub reached_end : (names : Names) (before symbols : List NamedValue) → Reached names before symbols [] → HoldsNames names (before ++ symbols) × (duplicate before symbols ≡ None)
 unfolding duplicate

@@ -4,7 +4,7 @@ use Rattle.std.specs.Prelude.{Result, Ok, Err, OnOk, IfErr}
 use Rattle.elf_objects.specs.Object.{ObjectValue}
 use Rattle.elf_objects.specs.Passes.{first_of}
 use Rattle.layout_file.specs.Values.{LayoutValue}
-use Rattle.link_symbols.specs.Passes.{or_else}
+use Rattle.std.specs.Option.{option_or}
 use Rattle.link_symbols.specs.Names.{stands_for}
 use Rattle.link_symbols.specs.Resolved.{items_of}
 use Rattle.link_symbols.specs.Symbols.{named_symbols}
@@ -16,15 +16,15 @@ use Rattle.link_symbols.proofs.Steps.{or_else_none}
 pub ext : {A B : Type 0} (f g : A → B) → ((x : A) → f x ≡ g x) → f ≡ g
 ext f g h = λ i. λ x. h x i
 
-pub both_none : {A : Type 0} (a b : Option A) → or_else a b ≡ None → (a ≡ None) × (b ≡ None)
+pub both_none : {A : Type 0} (a b : Option A) → option_or a b ≡ None → (a ≡ None) × (b ≡ None)
 both_none None b e = (refl, e)
 both_none (Some x) b e = cc
 
-pub skip : {A : Type 0} (a b r : Option A) → a ≡ None → b ≡ r → or_else a b ≡ r
+pub skip : {A : Type 0} (a b r : Option A) → a ≡ None → b ≡ r → option_or a b ≡ r
 skip None b r e f = f
 skip (Some x) b r e f = cc
 
-pub hit : {A : Type 0} (a b : Option A) (f : A) → a ≡ Some f → or_else a b ≡ Some f
+pub hit : {A : Type 0} (a b : Option A) (f : A) → a ≡ Some f → option_or a b ≡ Some f
 hit None b f e = cc
 hit (Some x) b f e = e
 
@@ -38,7 +38,7 @@ if_err (Ok x) P Q f p = tt
 if_err (Err e) P Q f p = f e p
 
 grouped : {F : Type 0} (a b c d e f : Option F) →
-    first_of (a ∷ b ∷ c ∷ d ∷ e ∷ f ∷ []) ≡ or_else (or_else a b) (or_else c (or_else d (or_else e f)))
+    first_of (a ∷ b ∷ c ∷ d ∷ e ∷ f ∷ []) ≡ option_or (option_or a b) (option_or c (option_or d (option_or e f)))
 grouped (Some x) b c d e f = refl
 grouped None (Some x) c d e f = refl
 grouped None None (Some x) d e f = refl
@@ -47,7 +47,7 @@ grouped None None None None (Some x) f = refl
 grouped None None None None None f = or_else_none f
 
 pub in_groups : (layout : LayoutValue) (os : List ObjectValue) →
-    unresolved layout os ≡ or_else (names_fault layout os) (stand_fault (stands_for os) (items_of layout os) layout os)
+    unresolved layout os ≡ option_or (names_fault layout os) (stand_fault (stands_for os) (items_of layout os) layout os)
 unfolding unresolved names_fault stand_fault
 in_groups layout os =
     let names = stands_for os in

@@ -7,7 +7,8 @@ use Rattle.elf_objects.specs.Object.{ObjectValue}
 use Rattle.link_symbols.specs.declared.names.Definition.{Definition}
 use Rattle.link_symbols.specs.declared.names.Names.{Names}
 use Rattle.link_symbols.specs.declared.symbol.Meaning.{Meaning}
-use Rattle.link_symbols.specs.Passes.{or_else, some_if, map_at, NumberedObject, numbered_objects, numbered_objects_from}
+use Rattle.link_symbols.specs.Passes.{some_if, map_at, NumberedObject, numbered_objects, numbered_objects_from}
+use Rattle.std.specs.Option.{option_or}
 use Rattle.link_symbols.specs.Symbols.{NamedValue, named_symbol, named_symbols_in, named_symbols}
 use Rattle.link_symbols.specs.Definitions.{definition, strong_by, strong_of, weak_of, if_named}
 use Rattle.link_symbols.specs.Commons.{commons_of, common_at}
@@ -27,11 +28,11 @@ no_earlier : (s : NamedValue) (d : Definition) (found : Option Definition) → d
 no_earlier s d None e = refl
 no_earlier s d (Some f) e = cc
 
-strong_append : (before after : List NamedValue) (q : List ℕ) → strong_of (before ++ after) q ≡ or_else (strong_of before q) (strong_of after q)
+strong_append : (before after : List NamedValue) (q : List ℕ) → strong_of (before ++ after) q ≡ option_or (strong_of before q) (strong_of after q)
 unfolding strong_of
 strong_append before after q = first_in_append (λ s. if_named q s (strong_by s)) before after
 
-strong_first : (s : NamedValue) (after : List NamedValue) (q : List ℕ) → strong_of (s ∷ after) q ≡ or_else (some_if (bytes_eq s.name q) (strong_by s)) (strong_of after q)
+strong_first : (s : NamedValue) (after : List NamedValue) (q : List ℕ) → strong_of (s ∷ after) q ≡ option_or (some_if (bytes_eq s.name q) (strong_by s)) (strong_of after q)
 unfolding strong_of
 strong_first s after q = refl
 
@@ -47,10 +48,10 @@ strong_here before s after d e is =
     let none = no_earlier s d (strong_of before s.name) here in
     let same : bytes_eq s.name s.name ≡ true = (bytes_eq-Decides s.name s.name).1 refl in
     strong_append before (s ∷ after) s.name
-    ∙ (ap (λ o. or_else o (strong_of (s ∷ after) s.name)) none
+    ∙ (ap (λ o. option_or o (strong_of (s ∷ after) s.name)) none
     ∙ (strong_first s after s.name
-    ∙ (ap (λ b. or_else (some_if b (strong_by s)) (strong_of after s.name)) same
-    ∙ ap (λ o. or_else o (strong_of after s.name)) is)))
+    ∙ (ap (λ b. option_or (some_if b (strong_by s)) (strong_of after s.name)) same
+    ∙ ap (λ o. option_or o (strong_of after s.name)) is)))
 
 own_here : (os : List ObjectValue) (before : List NamedValue) (s : NamedValue) (after : List NamedValue) → named_symbols os ≡ before ++ (s ∷ after) → duplicate [] (named_symbols os) ≡ None → OwnMeaning (stands_for os) s
 unfolding stands_for

@@ -4,13 +4,14 @@ use Rattle.std.proofs.lemmas.List.{drop-map, map-append, take_more}
 use Rattle.std.proofs.Math.Seq.{drop-cons}
 use Rattle.std.proofs.Math.ListN.{drop_of_length-le}
 use Rattle.elf_objects.specs.Object.{ObjectValue}
-use Rattle.link_symbols.specs.Passes.{fold_at, or_else, first_in, first_at, map_at, NumberedObject, numbered_objects_from}
+use Rattle.link_symbols.specs.Passes.{fold_at, first_in, first_at, map_at, NumberedObject, numbered_objects_from}
+use Rattle.std.specs.Option.{option_or}
 
-pub or_else_assoc : {A : Type 0} (a b c : Option A) → or_else (or_else a b) c ≡ or_else a (or_else b c)
+pub or_else_assoc : {A : Type 0} (a b c : Option A) → option_or (option_or a b) c ≡ option_or a (option_or b c)
 or_else_assoc (Some x) b c = refl
 or_else_assoc None b c = refl
 
-pub or_else_none : {A : Type 0} (a : Option A) → or_else a None ≡ a
+pub or_else_none : {A : Type 0} (a : Option A) → option_or a None ≡ a
 or_else_none (Some x) = refl
 or_else_none None = refl
 

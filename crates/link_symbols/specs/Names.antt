@@ -5,7 +5,7 @@ use Rattle.elf_objects.specs.declared.object.Binding.{Binding}
 use Rattle.elf_objects.specs.declared.object.Binding.TheVariants as binding
 use Rattle.link_symbols.specs.declared.names.Definition.{Definition}
 use Rattle.link_symbols.specs.declared.symbol.Meaning.{Meaning}
-use Rattle.link_symbols.specs.Passes.{or_else}
+use Rattle.std.specs.Option.{option_or}
 use Rattle.link_symbols.specs.Symbols.{NamedValue, named_symbols}
 use Rattle.link_symbols.specs.Definitions.{meaning_in, strong_of, weak_of}
 use Rattle.link_symbols.specs.Commons.{commons_of, common_at}
@@ -13,7 +13,7 @@ use Rattle.link_symbols.specs.declared.symbol.Meaning.TheVariants as meaning
 
 -- its strong definition; else its common; else its first weak definition
 abbrev pub stands_by : Option Definition → Option ℕ → Option Meaning → Option Meaning
-stands_by strong common weak = or_else (option_map (λ d. d.meaning) strong) (or_else (option_map (λ item. meaning.Place item 0) common) weak)
+stands_by strong common weak = option_or (option_map (λ d. d.meaning) strong) (option_or (option_map (λ item. meaning.Place item 0) common) weak)
 
 abbrev pub count_sections : List ObjectValue → ℕ
 count_sections objects = sum_by (λ o. length o.sections) objects

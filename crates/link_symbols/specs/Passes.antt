@@ -4,7 +4,8 @@ use Rattle.elf_objects.specs.declared.object.Span.{Span}
 use Rattle.elf_objects.specs.Object.{ObjectValue}
 use Rattle.link_symbols.specs.declared.fault.LinkFault.{LinkFault}
 use Rattle.link_symbols.specs.declared.fault.LinkFault.TheVariants as fault
-pub use Rattle.elf_objects.specs.Passes.{or_else, refuse_if, FaultIs}
+pub use Rattle.elf_objects.specs.Passes.{FaultIs}
+use Rattle.std.specs.Option.{option_or}
 
 -- this one, where a test says so
 abbrev pub some_if : {A : Type 0} → Bool → Option A → Option A
@@ -14,12 +15,12 @@ some_if false found = None
 -- what the first element gives that gives something
 abbrev pub first_in : {X A : Type 0} → (X → Option A) → List X → Option A
 first_in f [] = None
-first_in f (x ∷ xs) = or_else (f x) (first_in f xs)
+first_in f (x ∷ xs) = option_or (f x) (first_in f xs)
 
 -- the same where the elements are numbered from here on
 abbrev pub first_at : {X A : Type 0} → (ℕ → X → Option A) → ℕ → List X → Option A
 first_at f i [] = None
-first_at f i (x ∷ xs) = or_else (f i x) (first_at f (i + 1) xs)
+first_at f i (x ∷ xs) = option_or (f i x) (first_at f (i + 1) xs)
 
 -- what each element gives, the elements being numbered from here on
 abbrev pub map_at : {X A : Type 0} → (ℕ → X → A) → ℕ → List X → List A

@@ -14,7 +14,9 @@ use Rattle.link_symbols.specs.declared.item.Part.{Part}
 use Rattle.link_symbols.specs.declared.item.Item.{Item}
 use Rattle.link_symbols.specs.declared.names.Definition.{Definition}
 use Rattle.link_symbols.specs.declared.symbol.Meaning.{Meaning}
-use Rattle.link_symbols.specs.Passes.{refuse_if, or_else, first_in, first_at, NumberedObject, numbered_objects}
+use Rattle.link_symbols.specs.Passes.{first_in, first_at, NumberedObject, numbered_objects}
+use Rattle.std.specs.Bool.{then_some}
+use Rattle.std.specs.Option.{option_or}
 use Rattle.link_symbols.specs.Parts.{is_loaded_head, item_of}
 use Rattle.link_symbols.specs.Symbols.{NamedValue, named_symbol, named_symbols}
 use Rattle.link_symbols.specs.Definitions.{strong_by, strong_of}
@@ -25,7 +27,7 @@ use Rattle.link_symbols.specs.declared.symbol.Meaning.TheVariants as meaning
 
 -- 1: a loaded section that goes nowhere
 unfoldable pub no_place_at : List ModuleValue → NumberedObject → ℕ → SectionHead → Option LinkFault
-no_place_at modules x k head = refuse_if (is_loaded_head head && is_none (item_of modules x.object head).part) (fault.NoPlace x.number k)
+no_place_at modules x k head = then_some (is_loaded_head head && is_none (item_of modules x.object head).part) (fault.NoPlace x.number k)
 
 abbrev pub no_place_in : List ModuleValue → NumberedObject → Option LinkFault
 no_place_in modules x = first_at (no_place_at modules x) 0 x.object.sections
@@ -43,7 +45,7 @@ duplicate_of before s = duplicate_by s (strong_by s) (strong_of before s.name)
 
 unfoldable pub duplicate : List NamedValue → List NamedValue → Option LinkFault
 duplicate before [] = None
-duplicate before (s ∷ ss) = or_else (duplicate_of before s) (duplicate (before ++ s ∷ []) ss)
+duplicate before (s ∷ ss) = option_or (duplicate_of before s) (duplicate (before ++ s ∷ []) ss)
 
 -- 3: the lowest symbol of an object that a relocation uses and that does not resolve
 abbrev pub is_used : List Relocation → ℕ → Bool
@@ -51,7 +53,7 @@ is_used relocations k = list_any (λ r. r.symbol == k) relocations
 
 unfoldable pub undefined_at : (List ℕ → Option Meaning) → NumberedObject → ℕ → Symbol → Option LinkFault
 undefined_at names x k s =
-    refuse_if (is_used x.object.relocations k && is_none (symbol_meaning names (named_symbol x k s))) (fault.Undefined x.number k)
+    then_some (is_used x.object.relocations k && is_none (symbol_meaning names (named_symbol x k s))) (fault.Undefined x.number k)
 
 abbrev pub undefined_in : (List ℕ → Option Meaning) → NumberedObject → Option LinkFault
 undefined_in names x = first_at (undefined_at names x) 0 x.object.symbols
@@ -61,14 +63,14 @@ undefined names objects = first_in (undefined_in names) (numbered_objects object
 
 -- 4
 abbrev pub no_vector_at : (List ℕ → Option Meaning) → VectorValue → Option LinkFault
-no_vector_at names v = refuse_if (is_none (names v.name)) (fault.NoVector v.vector)
+no_vector_at names v = then_some (is_none (names v.name)) (fault.NoVector v.vector)
 
 unfoldable pub no_vector : (List ℕ → Option Meaning) → List VectorValue → Option LinkFault
 no_vector names vectors = first_in (no_vector_at names) vectors
 
 -- 5
 abbrev pub no_entry_at : (List ℕ → Option Meaning) → ℕ → ℕ → List ℕ → Option LinkFault
-no_entry_at names i k name = refuse_if (is_none (names name)) (fault.NoEntry i k)
+no_entry_at names i k name = then_some (is_none (names name)) (fault.NoEntry i k)
 
 abbrev pub no_entry_in : (List ℕ → Option Meaning) → ℕ → ModuleValue → Option LinkFault
 no_entry_in names i m = first_at (no_entry_at names i) 0 m.entries
@@ -88,7 +90,7 @@ is_module_entry items i (Some (meaning.Place item offset)) = is_entry_in i offse
 is_module_entry items i _ = false
 
 abbrev pub elsewhere_at : (List ℕ → Option Meaning) → List Item → ℕ → ℕ → List ℕ → Option LinkFault
-elsewhere_at names items i k name = refuse_if (not (is_module_entry items i (names name))) (fault.EntryElsewhere i k)
+elsewhere_at names items i k name = then_some (not (is_module_entry items i (names name))) (fault.EntryElsewhere i k)
 
 abbrev pub elsewhere_in : (List ℕ → Option Meaning) → List Item → ℕ → ModuleValue → Option LinkFault
 elsewhere_in names items i m = first_at (elsewhere_at names items i) 0 m.entries

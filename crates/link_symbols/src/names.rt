@@ -2,7 +2,8 @@
 
 ghost use Rattle.std.specs.Prelude.{◌≡◌, ◌≤◌, ◌+◌, ◌*◌, ◌^◌, ◌++◌, List, [], ◌∷◌, ℕ, length, Some, None, OnOk, IfOk, IfErr, bytes_eq, fold, ◌<◌, slice_set, slice_index_or, true, map};
 ghost use Rattle.elf_objects.specs.Object.{IsSymbol};
-ghost use Rattle.link_symbols.specs.Passes.{NumberedObject, numbered_objects, IsLinkFaultOf, some_if, or_else};
+ghost use Rattle.link_symbols.specs.Passes.{NumberedObject, numbered_objects, IsLinkFaultOf, some_if};
+ghost use Rattle.std.specs.Option.{option_or};
 ghost use Rattle.link_symbols.specs.Passes.{numbered_object};
 ghost use Rattle.link_symbols.specs.Commons.{common_item, commons_of, common_at, some_item, Common, with_common, with_symbol};
 ghost use Rattle.link_symbols.specs.internal.Founds.{is_common};

@@ -10,7 +10,8 @@ use Rattle.layout_file.specs.Sound.{IsLayout}
 use Rattle.layout_file.specs.Values.{ModuleValue, LayoutValue}
 use Rattle.link_symbols.specs.declared.item.Item.{Item}
 use Rattle.link_symbols.specs.declared.item.Part.{Part}
-use Rattle.link_symbols.specs.Passes.{first_at, or_else, part}
+use Rattle.link_symbols.specs.Passes.{first_at, part}
+use Rattle.std.specs.Option.{option_or}
 use Rattle.link_symbols.specs.Parts.{part_at, code_part, data_part, part_in, part_of, item_of, is_loaded_head, items_in, section_items}
 use Rattle.link_symbols.specs.Commons.{commons_of}
 use Rattle.link_symbols.specs.Symbols.{named_symbols}
@@ -35,7 +36,7 @@ named_in : (n i : ℕ) (m : ModuleValue) (name : List ℕ) → 4 + 2 * i ≤ n �
 unfolding part_in
 named_in n i m name l = three_in n _ _ _ (code_part i) (data_part i 0) (data_part i 1) (omega arith, omega arith) (omega arith, omega arith) (omega arith, omega arith)
 
-either_in : (n : ℕ) (a b : Option Part) → IsInBy n a → IsInBy n b → IsInBy n (or_else a b)
+either_in : (n : ℕ) (a b : Option Part) → IsInBy n a → IsInBy n b → IsInBy n (option_or a b)
 either_in n (Some p) b h i = h
 either_in n None b h i = i
 

@@ -21,7 +21,8 @@ use Rattle.link_symbols.specs.declared.item.Part.{Part}
 use Rattle.link_symbols.specs.declared.symbol.Meaning.{Meaning}
 use Rattle.link_symbols.specs.declared.symbol.Meaning.TheVariants as meaning
 use Rattle.mod_layout.specs.declared.Section.{Section}
-use Rattle.link_symbols.specs.Passes.{NumberedObject, numbered_objects, first_in, refuse_if, part}
+use Rattle.link_symbols.specs.Passes.{NumberedObject, numbered_objects, first_in, part}
+use Rattle.std.specs.Bool.{then_some}
 use Rattle.link_symbols.specs.Parts.{is_loaded_head, code_part, part_of, item_of}
 use Rattle.link_symbols.specs.Symbols.{named_symbol, named_symbols}
 use Rattle.link_symbols.specs.Names.{stands_for, symbol_meaning}
@@ -39,14 +40,14 @@ use Rattle.linker_laws.proofs.Strong.{duplicates, no_duplicates}
 
 -- ---- sections
 
-goes_by : (b : Bool) (p : Option Part) (f : LinkFault) → refuse_if (b && is_none (if b then p else None)) f ≡ None →
+goes_by : (b : Bool) (p : Option Part) (f : LinkFault) → then_some (b && is_none (if b then p else None)) f ≡ None →
     b ≡ true → p ≢ None
 goes_by true None f e h = cc
 goes_by true (Some p) f e h = λ n. cc
 goes_by false p f e h = cc
 
 by_goes : (b : Bool) (p : Option Part) (f : LinkFault) → (b ≡ true → p ≢ None) →
-    refuse_if (b && is_none (if b then p else None)) f ≡ None
+    then_some (b && is_none (if b then p else None)) f ≡ None
 by_goes true None f h = absurd (h refl refl)
 by_goes true (Some p) f h = refl
 by_goes false p f h = refl
@@ -101,7 +102,7 @@ abbrev Stand : (List ℕ → Option Meaning) → NumberedObject → ℕ → Opti
 Stand names x k o = IfSome o (λ s. symbol_meaning names (named_symbol x k s) ≢ None)
 
 stand_by : (names : List ℕ → Option Meaning) (x : NumberedObject) (k : ℕ) (b : Bool) (s : Symbol) → b ≡ true →
-    refuse_if (b && is_none (symbol_meaning names (named_symbol x k s))) (fault.Undefined x.number k) ≡ None →
+    then_some (b && is_none (symbol_meaning names (named_symbol x k s))) (fault.Undefined x.number k) ≡ None →
     symbol_meaning names (named_symbol x k s) ≢ None
 stand_by names x k true s u e = some_is (symbol_meaning names (named_symbol x k s)) (refused_not _ _ e)
 stand_by names x k false s u e = cc
@@ -130,7 +131,7 @@ used_stand names objects e = λ n x l j r m.
 
 gap_none : (names : List ℕ → Option Meaning) (x : NumberedObject) (k : ℕ) (s : Symbol) (b : Bool) →
     is_used x.object.relocations k ≡ b → slice_get x.object.symbols k ≡ Some s →
-    All (λ r. Stand names x r.symbol (slice_get x.object.symbols r.symbol)) x.object.relocations → refuse_if (b && is_none (symbol_meaning names (named_symbol x k s))) (fault.Undefined x.number k) ≡ None
+    All (λ r. Stand names x r.symbol (slice_get x.object.symbols r.symbol)) x.object.relocations → then_some (b && is_none (symbol_meaning names (named_symbol x k s))) (fault.Undefined x.number k) ≡ None
 gap_none names x k s false u g h = refl
 gap_none names x k s true u g h =
     let j = user_of x.object.relocations k u in

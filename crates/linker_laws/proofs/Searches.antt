@@ -1,10 +1,12 @@
 -- A search finds no refusal exactly where each element gives none.
 use Rattle.std.proofs.Common.{◌≡◌, ◌≢◌, ℕ, zero, suc, ◌+◌, ◌<◌, List, [], ◌∷◌, length, get_or, Option, Some, None, Bool, true, false, is_none, refl, ap, ◌∙◌, arith}
 use Rattle.std.specs.Prelude.{All, slice_get}
-use Rattle.link_symbols.specs.Passes.{or_else, first_in, first_at, refuse_if}
+use Rattle.link_symbols.specs.Passes.{first_in, first_at}
+use Rattle.std.specs.Option.{option_or}
+use Rattle.std.specs.Bool.{then_some}
 use Rattle.link_symbols.proofs.OrderLemmas.{both_none}
 
-pub or_none : {A : Type 0} (a b : Option A) → a ≡ None → b ≡ None → or_else a b ≡ None
+pub or_none : {A : Type 0} (a b : Option A) → a ≡ None → b ≡ None → option_or a b ≡ None
 or_none None b e f = f
 or_none (Some x) b e f = cc
 
@@ -43,11 +45,11 @@ at_none f xs e k d l = let z : k ≡ 0 + k = omega arith in ap (λ (n : ℕ). f 
 
 -- ---- one condition
 
-pub refused_not : {F : Type 0} (b : Bool) (f : F) → refuse_if b f ≡ None → b ≡ false
+pub refused_not : {F : Type 0} (b : Bool) (f : F) → then_some b f ≡ None → b ≡ false
 refused_not true f e = cc
 refused_not false f e = refl
 
-pub not_refused : {F : Type 0} (b : Bool) (f : F) → b ≡ false → refuse_if b f ≡ None
+pub not_refused : {F : Type 0} (b : Bool) (f : F) → b ≡ false → then_some b f ≡ None
 not_refused true f e = cc
 not_refused false f e = refl
 

@@ -8,7 +8,9 @@ use Rattle.std.proofs.lemmas.List.Elements.{All-get_or, All-filter}
 use Rattle.std.proofs.lemmas.Bool.{and_left, lt-ltb}
 use Rattle.elf_objects.specs.declared.fault.ElfFault.TheVariants as fault
 use Rattle.elf_objects.specs.Bytes.{long_at}
-use Rattle.elf_objects.specs.Passes.{all_below, refuse_if, first_below, or_else}
+use Rattle.elf_objects.specs.Passes.{all_below, first_below}
+use Rattle.std.specs.Bool.{then_some}
+use Rattle.std.specs.Option.{option_or}
 use Rattle.elf_objects.specs.declared.section.Header.{Header}
 use Rattle.elf_objects.specs.declared.symbol.Entry.{Entry}
 use Rattle.elf_objects.specs.Header.{section_count, header_fault, table_fault}
@@ -175,7 +177,7 @@ symbol_by unit is k lt =
     let within : ltb entry.section (section_count file) ≡ true = lt-ltb entry.section (section_count file) (omega (arith, count, home, section)) in
     let homed : is_bad_home file entry ≡ false = ap (λ b. not b && not (eqb entry.section 0xFFF1) && not (eqb entry.section 0xFFF2)) within in
     let common : is_bad_common entry ≡ false = and_left (eqb entry.section 0xFFF2) (eqb entry.binding 0 || not (is_alignment entry.value)) (other_index entry.section 0xFFF2 (omega (arith, home, section, few))) in
-    ap (λ b. refuse_if b (fault.Symbol (suc k)))
+    ap (λ b. then_some b (fault.Symbol (suc k)))
     (four_false (is_none (end_in (content file (strings_of file table)) entry.name)) (ltb 2 entry.binding) (is_bad_home file entry) (is_bad_common entry) ends binding homed common)
 
 symbol_each : (unit : UnitValue) → IsUnit unit → (i : ℕ) → i < count_in (symbols_read unit) → symbol_fault (object_of unit) (symbols_read unit) i ≡ None
@@ -237,7 +239,7 @@ relocation_entry_by unit is j i symbols lt count e within =
     let few = is.few_symbols in
     let info = info_read file at r (omega (arith, symbol, few)) (relocation_stands file (relocations_head_read unit j).offset unit.relocations target e inside (relocations_stand unit is j lt)) in
     let there : long_at file (at + 4) / 256 < symbols = omega (arith, info, symbol, count) in
-    ap (λ b. refuse_if (not b) (fault.Relocation i e)) (lt-ltb (long_at file (at + 4) / 256) symbols there)
+    ap (λ b. then_some (not b) (fault.Relocation i e)) (lt-ltb (long_at file (at + 4) / 256) symbols there)
 
 not_kept_by : (file : List ℕ) (symbols i : ℕ) (h : Header) → header_of file i ≡ h → eqb h.kind 4 ≡ false → relocation_fault file symbols i ≡ None
 unfolding relocation_fault
@@ -288,8 +290,8 @@ pub no_fault : (unit : UnitValue) → IsUnit unit → elf_fault_of (object_of un
 unfolding elf_fault_of
 no_fault unit is =
     let l = unit_laid unit is in
-    both_none (header_fault (object_of unit)) (cond (eqb (section_count (object_of unit)) 0) None (or_else (table_fault (object_of unit)) (contents_fault (object_of unit)))) l.header_none
+    both_none (header_fault (object_of unit)) (cond (eqb (section_count (object_of unit)) 0) None (option_or (table_fault (object_of unit)) (contents_fault (object_of unit)))) l.header_none
     (by (eqb (section_count (object_of unit)) 0) (both_none (table_fault (object_of unit)) (contents_fault (object_of unit)) l.table_none (no_contents_fault unit is))) where
-      by : (b : Bool) → or_else (table_fault (object_of unit)) (contents_fault (object_of unit)) ≡ None → cond b None (or_else (table_fault (object_of unit)) (contents_fault (object_of unit))) ≡ None
+      by : (b : Bool) → option_or (table_fault (object_of unit)) (contents_fault (object_of unit)) ≡ None → cond b None (option_or (table_fault (object_of unit)) (contents_fault (object_of unit))) ≡ None
       by true e = refl
       by false e = e

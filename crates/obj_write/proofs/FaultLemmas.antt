@@ -4,7 +4,7 @@ use Rattle.std.proofs.lemmas.List.Elements.{All-get_or}
 use Rattle.std.proofs.lemmas.Bool.{le-ltb}
 use Rattle.elf_objects.specs.declared.fault.ElfFault.{ElfFault}
 use Rattle.elf_objects.specs.declared.fault.ElfFault.TheVariants as fault
-use Rattle.elf_objects.specs.Passes.{refuse_if}
+use Rattle.std.specs.Bool.{then_some}
 use Rattle.elf_objects.specs.declared.section.Header.{Header}
 use Rattle.elf_objects.specs.Header.{section_count, name_table}
 use Rattle.elf_objects.specs.Section.{header_of, content, ends_past, is_absent, is_loaded, is_loaded_header, is_alignment, section_fault, section_faults, compressed_fault, compressed_faults, rel_fault, rel_faults}
@@ -36,7 +36,7 @@ unfolding section_fault
 zero_section unit is = rw (zero_header unit is) refl
 
 part_sound : (K : SectionKind) (len at size bytes : ℕ) (f : ElfFault) → bytes ≡ kept_size K size → at + bytes ≤ len
-    → refuse_if ((not (eqb (section_type K) 0 || eqb (section_type K) 8) && ltb len (at + size)) || (is_loaded (section_type K) (section_flags K) && not (is_alignment 2))) f ≡ None
+    → then_some ((not (eqb (section_type K) 0 || eqb (section_type K) 8) && ltb len (at + size)) || (is_loaded (section_type K) (section_flags K) && not (is_alignment 2))) f ≡ None
 part_sound Code len at size bytes f e le = let p : ltb len (at + size) ≡ false = le-ltb len (at + size) (omega arith) in rw p refl
 part_sound Data len at size bytes f e le = let p : ltb len (at + size) ≡ false = le-ltb len (at + size) (omega arith) in rw p refl
 part_sound Bss len at size bytes f e le = refl
@@ -59,9 +59,9 @@ table_fault_by unit is k lt s bytes h at content e place size flat =
     let within = ends_within unit is k lt in
     let sized : length ((get_or (file_sections unit) k no_section).content) ≡ length bytes = ap (λ (t : FileSection). length t.content) at ∙ ap length content in
     let past : ltb (length file) (h.offset + h.size) ≡ false = le-ltb (length file) (h.offset + h.size) (omega (arith, within, sized, place, size)) in
-    ap (λ (x : Header). refuse_if ((not (is_absent x) && ends_past file x) || (is_loaded_header x && not (is_alignment x.align))) (fault.Section (suc k))) e
+    ap (λ (x : Header). then_some ((not (is_absent x) && ends_past file x) || (is_loaded_header x && not (is_alignment x.align))) (fault.Section (suc k))) e
     ∙ by (not (is_absent h)) (ltb (length file) (h.offset + h.size)) (is_loaded_header h) past flat where
-      by : (a b c : Bool) → b ≡ false → c ≡ false → refuse_if ((a && b) || (c && not (is_alignment h.align))) (fault.Section (suc k)) ≡ None
+      by : (a b c : Bool) → b ≡ false → c ≡ false → then_some ((a && b) || (c && not (is_alignment h.align))) (fault.Section (suc k)) ≡ None
       by true b c p q = rw (p, q) refl
       by false b c p q = rw q refl
 
@@ -88,7 +88,7 @@ no_section_faults unit is =
 compressed_by : (file : List ℕ) (i : ℕ) (h : Header) → header_of file i ≡ h → (is_loaded_header h && eqb (h.flags / 2048 % 2) 1) ≡ false → compressed_fault file i ≡ None
 unfolding compressed_fault
 compressed_by file i h e flat =
-    ap (λ (x : Header). refuse_if (is_loaded_header x && eqb (x.flags / 2048 % 2) 1) (fault.Compressed i)) e ∙ ap (λ b. refuse_if b (fault.Compressed i)) flat
+    ap (λ (x : Header). then_some (is_loaded_header x && eqb (x.flags / 2048 % 2) 1) (fault.Compressed i)) e ∙ ap (λ b. then_some b (fault.Compressed i)) flat
 
 part_flags : (K : SectionKind) → (is_loaded (section_type K) (section_flags K) && eqb (section_flags K / 2048 % 2) 1) ≡ false
 part_flags Code = refl
@@ -110,8 +110,8 @@ no_compressed_faults unit is =
 rel_by : (file : List ℕ) (i : ℕ) (h : Header) → header_of file i ≡ h → eqb h.kind 9 ≡ false → rel_fault file i ≡ None
 unfolding rel_fault
 rel_by file i h e other =
-    ap (λ (x : Header). refuse_if (eqb x.kind 9 && is_loaded_header (header_of file x.info)) (fault.RelSection i)) e
-    ∙ ap (λ b. refuse_if (b && is_loaded_header (header_of file h.info)) (fault.RelSection i)) other
+    ap (λ (x : Header). then_some (eqb x.kind 9 && is_loaded_header (header_of file x.info)) (fault.RelSection i)) e
+    ∙ ap (λ b. then_some (b && is_loaded_header (header_of file h.info)) (fault.RelSection i)) other
 
 part_kind : (K : SectionKind) → eqb (section_type K) 9 ≡ false
 part_kind Code = refl
@@ -150,9 +150,9 @@ names_content unit is =
 name_by : (unit : UnitValue) → IsUnit unit → (i at end : ℕ) → (header_of (object_of unit) i).name ≡ at → end_in (string_table (object_section_names unit)) at ≡ Some end → name_fault (object_of unit) i ≡ None
 unfolding name_fault name_end
 name_by unit is i at end e ends =
-    ap (λ l. refuse_if (is_none (end_in l ((header_of (object_of unit) i).name))) (fault.Name i)) (names_content unit is)
-    ∙ (ap (λ n. refuse_if (is_none (end_in (string_table (object_section_names unit)) n)) (fault.Name i)) e
-    ∙ ap (λ (o : Option ℕ). refuse_if (is_none o) (fault.Name i)) ends)
+    ap (λ l. then_some (is_none (end_in l ((header_of (object_of unit) i).name))) (fault.Name i)) (names_content unit is)
+    ∙ (ap (λ n. then_some (is_none (end_in (string_table (object_section_names unit)) n)) (fault.Name i)) e
+    ∙ ap (λ (o : Option ℕ). then_some (is_none o) (fault.Name i)) ends)
 
 section_name_ends : (unit : UnitValue) → IsUnit unit → (k : ℕ) → k < length unit.sections + (3 + length (relocated_in unit))
     → end_in (string_table (object_section_names unit)) (name_at (object_section_names unit) k) ≡ Some (name_at (object_section_names unit) k + length (get_or (object_section_names unit) k []))

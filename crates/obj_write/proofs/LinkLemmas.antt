@@ -4,7 +4,9 @@ use Rattle.std.proofs.lemmas.Bool.Decides.{nat_tests}
 use Rattle.std.proofs.lemmas.Bool.{and_left, and_right, eq-eqb, lt-ltb}
 use Rattle.elf_objects.specs.declared.fault.ElfFault.{ElfFault}
 use Rattle.elf_objects.specs.declared.fault.ElfFault.TheVariants as fault
-use Rattle.elf_objects.specs.Passes.{refuse_if, first_below, or_else}
+use Rattle.elf_objects.specs.Passes.{first_below}
+use Rattle.std.specs.Bool.{then_some}
+use Rattle.std.specs.Option.{option_or}
 use Rattle.elf_objects.proofs.PassLemmas.{first_below_found}
 use Rattle.elf_objects.specs.declared.section.Header.{Header}
 use Rattle.elf_objects.specs.Header.{section_count, name_table}
@@ -30,7 +32,7 @@ other_index a b lt = grind (arith, nat_tests)
 above : (a b : ℕ) → b < a → eqb a b ≡ false
 above a b lt = grind (arith, nat_tests)
 
-four_false : (a b c d : Bool) (f : ElfFault) → a ≡ false → b ≡ false → c ≡ false → d ≡ false → refuse_if (a || b || c || d) f ≡ None
+four_false : (a b c d : Bool) (f : ElfFault) → a ≡ false → b ≡ false → c ≡ false → d ≡ false → then_some (a || b || c || d) f ≡ None
 four_false a b c d f p q r s = rw (p, q, r, s) refl
 
 four_nots : (a b c d : Bool) → a ≡ true → b ≡ true → c ≡ true → d ≡ true → (not a || not b || not c || not d) ≡ false
@@ -69,7 +71,7 @@ link_by : (file : List ℕ) (i : ℕ) (h : Header) → header_of file i ≡ h �
     → ((eqb h.kind 4 || eqb h.kind 9) && not (ltb h.info (section_count file))) ≡ false → (is_kept_table file h && is_bad_kept_table file h) ≡ false → link_fault file i ≡ None
 unfolding link_fault
 link_by file i h e a b c d =
-    ap (λ (x : Header). refuse_if (is_bad_link file i x) (fault.Link i)) e
+    ap (λ (x : Header). then_some (is_bad_link file i x) (fault.Link i)) e
     ∙ four_false (eqb i (name_table file) && not (eqb h.kind 3)) (eqb h.kind 2 && is_bad_symbol_table file i h) ((eqb h.kind 4 || eqb h.kind 9) && not (ltb h.info (section_count file))) (is_kept_table file h && is_bad_kept_table file h) (fault.Link i) a b c d
 
 other_than_names : (unit : UnitValue) → IsUnit unit → (i : ℕ) (x : Bool) → eqb i (suc (length unit.sections + 2)) ≡ false → (eqb i (name_table (object_of unit)) && x) ≡ false
@@ -150,9 +152,9 @@ names_link unit is =
     let n = counted_sections unit is in
     let e = names_at unit is in
     let within = lt-ltb (name_table file) (section_count file) (omega (arith, n, e)) in
-    ap (λ b. refuse_if (not b) (fault.Link (name_table file))) within
+    ap (λ b. then_some (not b) (fault.Link (name_table file))) within
 
-pub both_none : {A : Type 0} (a b : Option A) → a ≡ None → b ≡ None → or_else a b ≡ None
+pub both_none : {A : Type 0} (a b : Option A) → a ≡ None → b ≡ None → option_or a b ≡ None
 both_none a b p q = rw p q
 
 pub no_link_faults : (unit : UnitValue) → IsUnit unit → link_faults (object_of unit) ≡ None

@@ -9,7 +9,8 @@ use Rattle.byteorder.specs.Endian.{big_number}
 use Rattle.link_symbols.specs.declared.item.Item.{Item}
 use Rattle.link_symbols.specs.declared.names.Names.{Names}
 use Rattle.link_symbols.specs.declared.symbol.Meaning.{Meaning}
-use Rattle.link_symbols.specs.Passes.{some_if, or_else}
+use Rattle.link_symbols.specs.Passes.{some_if}
+use Rattle.std.specs.Option.{option_or}
 use Rattle.link_symbols.specs.Symbols.{NamedValue}
 use Rattle.link_symbols.specs.Definitions.{strong_of, weak_of}
 use Rattle.link_symbols.specs.Commons.{Common, common_item, common_at}
@@ -37,7 +38,7 @@ meaning_of_name names name = stands_by (name_entry names.strong name) (name_entr
 
 -- a map with one name more, where it was not there before
 abbrev pub Notes : {A : Type 0} → BTreeMap Key A → BTreeMap Key A → List ℕ → A → Type 0
-Notes old new name a = (q : List ℕ) → name_entry new q ≡ or_else (name_entry old q) (some_if (bytes_eq name q) (Some a))
+Notes old new name a = (q : List ℕ) → name_entry new q ≡ option_or (name_entry old q) (some_if (bytes_eq name q) (Some a))
 
 -- what is known of a symbol's name is its first weak definition
 abbrev pub IsFirst : (List ℕ → Option Meaning) → NamedValue → Option Meaning → Type 0

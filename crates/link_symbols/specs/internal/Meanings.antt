@@ -6,7 +6,8 @@ use Rattle.elf_objects.specs.declared.object.Symbol.{Symbol}
 use Rattle.elf_objects.specs.declared.object.Relocation.{Relocation}
 use Rattle.link_symbols.specs.declared.fault.LinkFault.{LinkFault}
 use Rattle.link_symbols.specs.declared.symbol.Meaning.{Meaning}
-use Rattle.link_symbols.specs.Passes.{refuse_if, first_at, NumberedObject, numbered_objects}
+use Rattle.link_symbols.specs.Passes.{first_at, NumberedObject, numbered_objects}
+use Rattle.std.specs.Bool.{then_some}
 use Rattle.link_symbols.specs.Symbols.{named_symbol, NamedValue}
 use Rattle.link_symbols.specs.Resolved.{meanings_in}
 use Rattle.link_symbols.specs.Refusals.{is_used}
@@ -27,7 +28,7 @@ all_stand (Some m ∷ ms) = all_stand ms
 
 -- a symbol that is used and stands for nothing
 abbrev pub gap_if : Bool → ℕ → ℕ → Option Meaning → Option LinkFault
-gap_if used number k m = refuse_if (used && is_none m) (fault.Undefined number k)
+gap_if used number k m = then_some (used && is_none m) (fault.Undefined number k)
 
 abbrev pub gap_at : ℕ → List Relocation → ℕ → Option Meaning → Option LinkFault
 gap_at number relocations k m = gap_if (is_used relocations k) number k m
