@@ -2,15 +2,17 @@
 """Compares the specs/ folders with what public clauses reach, and docs/MODEL.md with what the headline reaches.
 
 At the top of the repository: .ci/model.py. It says where a crate names another's specs/internal, where a public clause
-reaches a definition there, where a definition outside is reached by none, and which file of the headline docs/MODEL.md
-leaves out, has before one that it uses, or gives another number of lines. Its status is 1 where there is such a place.
+reaches a definition there, where a definition outside is reached by none, and which file of the headline or of linking
+docs/MODEL.md leaves out, has before one that it uses, or gives another number of lines of the headline. Its status is 1
+where there is such a place.
 """
 import pathlib, re, sys
 
 import reached
 
 HEADLINE = ["written_machine.specs.Trace.trace", "written_machine.specs.Peers.Peers", "written_machine.specs.View.view_of"]
-ROW = r"^.*`(crates/[^`]+\.antt)`[^|\n]*\|\s*(\d+)\s*\|"
+LINKING = ["linker.specs.Image.Links"]
+ROW = r"^.*`(crates/[^`]+\.antt)`[^|\n]*\|(?:\s*(\d+)\s*\|)?"
 
 
 def internals():
@@ -33,10 +35,11 @@ def internals():
 def model():
     """What docs/MODEL.md tells otherwise than the definitions have it."""
     wanted = reached.reached_from(HEADLINE)
+    ordered = wanted | reached.reached_from(LINKING)
     files = {str(file.path): (module, file) for module, file in reached.specs.items()}
     rows = re.findall(ROW, pathlib.Path("docs/MODEL.md").read_text(), re.M)
     told = [path for path, _ in rows]
-    needed = {str(reached.specs[module].path) for module, name in wanted if module in reached.specs}
+    needed = {str(reached.specs[module].path) for module, name in ordered if module in reached.specs}
     for path in sorted(needed - set(told)):
         yield f"docs/MODEL.md leaves out {path}"
     seen = set()
@@ -46,11 +49,11 @@ def model():
             continue
         module, file = files[path]
         size = sum(file.sizes[name] for name in file.defs if (module, name) in wanted)
-        if size != int(lines):
-            yield f"docs/MODEL.md: of {path} the headline reaches {size} lines, not {lines}"
+        if size != int(lines or 0):
+            yield f"docs/MODEL.md: of {path} the headline reaches {size} lines, not {lines or 0}"
         for name in file.defs:
             later = {reached.specs[other].path for other, _ in reached.used((module, name)) if other in reached.specs}
-            for other in later if (module, name) in wanted else ():
+            for other in later if (module, name) in ordered else ():
                 if str(other) in told and str(other) != path and str(other) not in seen:
                     yield f"docs/MODEL.md: {path} uses {other}, which comes later"
         seen.add(path)
