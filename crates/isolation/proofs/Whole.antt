@@ -215,10 +215,10 @@ module _ (a b : Image) (m : ℕ) (answers : List ℕ) (schedule : List Scheduled
   own = peers.owner
 
   sound_a : Sound m own a.table
-  sound_a = sound_from m own a.table peers.image_a.table_ok peers.owned
+  sound_a = sound_from m own a.table peers.differ.images.0.table_ok peers.differ.owned
 
   out_byte : (x : ℕ) → 65504 ≤ x → get_or a.memory x 0 ≡ get_or b.memory x 0
-  out_byte x h = peers.elsewhere x (out_holds own.ram x sound_a.own_ok.ram_ok.high h)
+  out_byte x h = peers.differ.elsewhere x (out_holds own.ram x sound_a.own_ok.ram_ok.high h)
 
   by_place : (i : ℕ) (c : Bool) → holds own.ram i ≡ c → get_or (cleared own.ram.start (size_of own.ram) a.memory) i 0 ≡ get_or (cleared own.ram.start (size_of own.ram) b.memory) i 0
   by_place i true e =
@@ -226,13 +226,13 @@ module _ (a b : Image) (m : ℕ) (answers : List ℕ) (schedule : List Scheduled
       get_in_cleared own.ram.start (size_of own.ram) a.memory i p.0 (omega (arith, p.0, p.1)) ∙ sym (get_in_cleared own.ram.start (size_of own.ram) b.memory i p.0 (omega (arith, p.0, p.1)))
   by_place i false e =
       let out : Out own.ram.start (size_of own.ram) i = λ low. not_in own.ram i e sound_a.own_ok.ram_ok.order low in
-      get_cleared own.ram.start (size_of own.ram) a.memory i out ∙ peers.elsewhere i e ∙ sym (get_cleared own.ram.start (size_of own.ram) b.memory i out)
+      get_cleared own.ram.start (size_of own.ram) a.memory i out ∙ peers.differ.elsewhere i e ∙ sym (get_cleared own.ram.start (size_of own.ram) b.memory i out)
 
   cleared_same : cleared own.ram.start (size_of own.ram) a.memory ≡ cleared own.ram.start (size_of own.ram) b.memory
   cleared_same =
       let lo = own.ram.start in
       let n = size_of own.ram in
-      let len : length (cleared lo n a.memory) ≡ length (cleared lo n b.memory) = length_cleared lo n a.memory ∙ peers.image_a.full ∙ sym (length_cleared lo n b.memory ∙ peers.image_b.full) in
+      let len : length (cleared lo n a.memory) ≡ length (cleared lo n b.memory) = length_cleared lo n a.memory ∙ peers.differ.images.0.full ∙ sym (length_cleared lo n b.memory ∙ peers.differ.images.1.full) in
       ext_get_or 0 (cleared lo n a.memory) (cleared lo n b.memory) len (λ i h. by_place i (holds own.ram i) refl)
 
   text_same : section own.text b.memory ≡ section own.text a.memory
@@ -250,9 +250,9 @@ module _ (a b : Image) (m : ℕ) (answers : List ℕ) (schedule : List Scheduled
       let build : ℕ → List ℕ → Table → List ℕ → ℕ → State = λ w mem t k sp. record (boot a schedule) { core = put (replicate 16 0) 0 w; memory = mem; table = t; key = k; handler_sp = sp } in
       ap (λ w. build w (cleared own.ram.start (size_of own.ram) a.memory) a.table a.node_key a.handler_sp) word
       ∙ ap (λ mem. build (word_at (λ x. get_or b.memory x 0) 65534) mem a.table a.node_key a.handler_sp) cleared_same
-      ∙ ap (λ t. build (word_at (λ x. get_or b.memory x 0) 65534) (cleared own.ram.start (size_of own.ram) b.memory) t a.node_key a.handler_sp) peers.table
-      ∙ ap (λ k. build (word_at (λ x. get_or b.memory x 0) 65534) (cleared own.ram.start (size_of own.ram) b.memory) b.table k a.handler_sp) peers.node_key
-      ∙ ap (λ sp. build (word_at (λ x. get_or b.memory x 0) 65534) (cleared own.ram.start (size_of own.ram) b.memory) b.table b.node_key sp) peers.handler_sp
+      ∙ ap (λ t. build (word_at (λ x. get_or b.memory x 0) 65534) (cleared own.ram.start (size_of own.ram) b.memory) t a.node_key a.handler_sp) peers.differ.table
+      ∙ ap (λ k. build (word_at (λ x. get_or b.memory x 0) 65534) (cleared own.ram.start (size_of own.ram) b.memory) b.table k a.handler_sp) peers.differ.node_key
+      ∙ ap (λ sp. build (word_at (λ x. get_or b.memory x 0) 65534) (cleared own.ram.start (size_of own.ram) b.memory) b.table b.node_key sp) peers.differ.handler_sp
 
   boot_twins : Twins m own a.node_key (section own.text a.memory) answers (boot a schedule) (boot b schedule)
   boot_twins =
@@ -260,7 +260,7 @@ module _ (a b : Image) (m : ℕ) (answers : List ℕ) (schedule : List Scheduled
         seen = boot_seen;
         secret = each_bound answers a.node_key own (section own.text a.memory) (section own.ram a.memory) (section own.ram b.memory) peers.even;
         keeps_a = record { sound = sound_a; key_is = refl; text_is = refl; once = omega arith; proper = λ h. absurd cc };
-        keeps_b = record { sound = subst (Sound m own) peers.table sound_a; key_is = sym peers.node_key; text_is = text_same; once = omega arith; proper = λ h. absurd cc };
+        keeps_b = record { sound = subst (Sound m own) peers.differ.table sound_a; key_is = sym peers.differ.node_key; text_is = text_same; once = omega arith; proper = λ h. absurd cc };
         open_a = λ h. tt;
         open_b = λ h. tt;
       }
@@ -269,7 +269,7 @@ module _ (a b : Image) (m : ℕ) (answers : List ℕ) (schedule : List Scheduled
   RelatedAt k = Related m own a.node_key (section own.text a.memory) answers (at a schedule k) (at b schedule k)
 
   related_at : (k : ℕ) → AnswersAgree a b m answers schedule k → RelatedAt k
-  related_at k agree = runs_alike m own a.node_key (section own.text a.memory) answers peers.answers_ok a b schedule (inr boot_twins) peers.image_a peers.image_b k agree
+  related_at k agree = runs_alike m own a.node_key (section own.text a.memory) answers peers.answers_ok a b schedule (inr boot_twins) peers.differ.images.0 peers.differ.images.1 k agree
 
   -- while the answers agree, the two runs are seen alike, and tell the same
   pub views_while : (k : ℕ) → AnswersAgree a b m answers schedule k → view_of (at a schedule k) (Only m) ≡ view_of (at b schedule k) (Only m)
@@ -278,7 +278,7 @@ module _ (a b : Image) (m : ℕ) (answers : List ℕ) (schedule : List Scheduled
   pub events_while : (k : ℕ) → AnswersAgree a b m answers schedule (suc k) → (cycle (at a schedule k)).events ≡ (cycle (at b schedule k)).events
   events_while k agree =
       (cycle_alike m own a.node_key (section own.text a.memory) answers peers.answers_ok (at a schedule k) (at b schedule k) (related_at k (λ j lt. agree j (omega arith)))
-      (fine_at a schedule k peers.image_a) (fine_at b schedule k peers.image_b) (agree k (omega arith))).events
+      (fine_at a schedule k peers.differ.images.0) (fine_at b schedule k peers.differ.images.1) (agree k (omega arith))).events
 
   pub callers_while : (k : ℕ) → AnswersAgree a b m answers schedule k → (at a schedule k).caller ≡ (at b schedule k).caller
   callers_while k agree = related_seen m own a.node_key (section own.text a.memory) answers (λ s. s.caller)

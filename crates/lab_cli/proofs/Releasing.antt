@@ -9,8 +9,8 @@ use Rattle.flow_rule.specs.declared.Verdict.{Verdict}
 use Rattle.flow_rule.specs.declared.Verdict.TheVariants.{Yes, No}
 use Rattle.flow_rule.specs.Arms.{VerdictUnder}
 use Rattle.flow_rule.specs.Laws.{AgreeOn}
-use Rattle.written_machine.specs.Peers.{section, PeersBut}
-use Rattle.peer_rows.specs.Laws.{DifferInData, AcceptedButAnswers}
+use Rattle.written_machine.specs.Peers.{section, DifferInData, PeersBut}
+use Rattle.peer_rows.specs.Laws.{AcceptedButAnswers}
 use Rattle.terms_file.specs.declared.Term.{Term}
 use Rattle.terms_file.specs.Laws.{AnswersMayBe}
 use Rattle.cli_files.specs.declared.answers.Status.TheVariants.{Done}

@@ -15,8 +15,7 @@ use Rattle.flow_rule.specs.Laws.{IsData, AgreeOn}
 use Rattle.flow_rule.specs.Terms.{Terms, no_terms}
 use Rattle.flow_rule.proofs.Calls.{even_under}
 use Rattle.cpu_step.specs.Lone.{is_answer}
-use Rattle.written_machine.specs.Peers.{section, PeersBut, Peers}
-use Rattle.peer_rows.specs.Laws.{DifferInData}
+use Rattle.written_machine.specs.Peers.{section, DifferInData, PeersBut, Peers}
 
 taken : (n : ℕ) (xs : List ℕ) → ((i : ℕ) → slice_index xs i < 256) → (i : ℕ) → slice_index (take n xs) i < 256
 taken (suc n) (x ∷ xs) h zero = h 0
@@ -39,18 +38,12 @@ pub accepted_but : (a b : Image) (m : ℕ) (owner : Module) (terms : Terms) (arm
     → AgreeOn owner terms.public (section owner.ram a.memory) (section owner.ram b.memory) → list_all is_answer terms.answers ≡ true
     → VerdictUnder terms owner (section owner.text a.memory) arms Yes → PeersBut a b m terms.answers
 accepted_but a b m owner terms arms d agree answers v =
-    let is = module_found a.table.given m owner a.table.modules d.image_a.table_ok.modules d.owned in
-    let da = is_data a owner d.image_a is.ram_ok in
-    let db = is_data b owner d.image_b is.ram_ok in
+    let is = module_found a.table.given m owner a.table.modules d.images.0.table_ok.modules d.owned in
+    let da = is_data a owner d.images.0 is.ram_ok in
+    let db = is_data b owner d.images.1 is.ram_ok in
     record {
-      image_a = d.image_a;
-      image_b = d.image_b;
-      table = d.table;
-      node_key = d.node_key;
-      handler_sp = d.handler_sp;
       owner = owner;
-      owned = d.owned;
-      elsewhere = d.elsewhere;
+      differ = d;
       answers_ok = answers;
       even = λ es n h. even_under terms a.node_key owner (section owner.text a.memory) arms n es (section owner.ram a.memory) (section owner.ram b.memory) is.text_ok is.ram_ok v
           (record { long = da.long; bytes = da.bytes }) (record { long = db.long; bytes = db.bytes }) agree h;

@@ -17,8 +17,7 @@ use Rattle.flow_rule.specs.Steps.{step_of}
 use Rattle.flow_rule.specs.Stub.{step_stub, has_stub}
 use Rattle.flow_rule.specs.Verdict.{start_under}
 use Rattle.flow_rule.specs.Arms.{step_arms, flow_under, VerdictWith}
-use Rattle.written_machine.specs.Peers.{section}
-use Rattle.peer_rows.specs.Laws.{DifferInData}
+use Rattle.written_machine.specs.Peers.{section, DifferInData}
 use Rattle.peer_rows.specs.Rows.{with_words, row_module, caller, memory_of, row_image, blind, balanced, BlindPeers, BalancedPeers}
 use Rattle.peer_rows.proofs.Accepted.{accepted}
 use Rattle.peer_rows.proofs.Sound.{Sound, Words, sound_words, sound_zeros, set_else, none_at}
@@ -85,8 +84,7 @@ same_else memory v w x e =
 
 pub differ : (text : List ℕ) (text_end v w : ℕ) → all_words text ≡ true → 0x0300 < text_end → text_end % 2 ≡ 0 → text_end ≤ 0x0400 → v < 65536 → w < 65536 → DifferInData (row_image text text_end v) (row_image text text_end w) 1 (row_module text_end)
 differ text e v w fit low even high a b = record {
-  image_a = is_image text e v fit low even high a;
-  image_b = is_image text e w fit low even high b;
+  images = (is_image text e v fit low even high a, is_image text e w fit low even high b);
   table = refl;
   node_key = refl;
   handler_sp = refl;

@@ -142,14 +142,8 @@ returning_peers =
     let m = row_module 0x0302 in
     let d = differ returning 0x0302 0x00ab 0x00cd refl (omega arith) refl (omega arith) (omega arith) (omega arith) in
     record {
-      image_a = d.image_a;
-      image_b = d.image_b;
-      table = d.table;
-      node_key = d.node_key;
-      handler_sp = d.handler_sp;
       owner = m;
-      owned = d.owned;
-      elsewhere = d.elsewhere;
+      differ = d;
       answers_ok = refl;
       even = subst (λ t. AlwaysEven a.node_key m t (section m.ram a.memory) (section m.ram b.memory)) (sym returning_text) (even a.node_key (section m.ram a.memory) (section m.ram b.memory));
     }

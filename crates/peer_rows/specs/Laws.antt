@@ -1,26 +1,15 @@
 -- A text that the rule of flow accepts makes peers.
-use Rattle.std.specs.Prelude.{◌≡◌, ℕ, List, slice_index, true, false, Some}
+use Rattle.std.specs.Prelude.{◌≡◌, ℕ, List, true}
 use Rattle.std.specs.List.{list_all}
 use Rattle.mod_layout.specs.declared.Module.{Module}
-use Rattle.mod_layout.specs.Table.{holds, module_of}
-use Rattle.image_text.specs.Image.{Image, IsImage}
+use Rattle.image_text.specs.Image.{Image}
 use Rattle.arm_balance.specs.declared.Arm.{Arm}
 use Rattle.cpu_step.specs.Lone.{is_answer}
 use Rattle.flow_rule.specs.declared.Verdict.TheVariants.{Yes}
 use Rattle.flow_rule.specs.Arms.{VerdictUnder, VerdictWith}
 use Rattle.flow_rule.specs.Laws.{AgreeOn}
 use Rattle.flow_rule.specs.Terms.{Terms}
-use Rattle.written_machine.specs.Peers.{section, PeersBut, Peers}
-
--- two images that differ in the data of one module alone
-pub record DifferInData (a b : Image) (m : ℕ) (owner : Module) : Type 0 where
-  pub image_a : IsImage a
-  pub image_b : IsImage b
-  pub table : a.table ≡ b.table
-  pub node_key : a.node_key ≡ b.node_key
-  pub handler_sp : a.handler_sp ≡ b.handler_sp
-  pub owned : module_of m a.table ≡ Some owner
-  pub elsewhere : (x : ℕ) → holds owner.ram x ≡ false → slice_index a.memory x ≡ slice_index b.memory x
+use Rattle.written_machine.specs.Peers.{section, DifferInData, PeersBut, Peers}
 
 -- where the module's text is accepted, they are peers
 abbrev pub AcceptedArePeers : Type 0

@@ -10,8 +10,8 @@ use Rattle.flow_rule.specs.declared.Verdict.{Verdict}
 use Rattle.flow_rule.specs.declared.Verdict.TheVariants.{Yes, No}
 use Rattle.flow_rule.specs.Arms.{VerdictWith}
 use Rattle.flow_rule.specs.Terms.{no_terms}
-use Rattle.written_machine.specs.Peers.{section, Peers}
-use Rattle.peer_rows.specs.Laws.{DifferInData, AcceptedArePeers}
+use Rattle.written_machine.specs.Peers.{section, DifferInData, Peers}
+use Rattle.peer_rows.specs.Laws.{AcceptedArePeers}
 use Rattle.cli_files.specs.declared.answers.Status.TheVariants.{Done}
 use Rattle.cli_files.specs.Files.{Held, an_image, certificates, image_with, arms_file, need, Holds, HoldAll}
 use Rattle.cli_calls.specs.Command.{Command, Answer, judges, Comes, Answers, IsJudged, IsAnswer}

@@ -16,10 +16,10 @@ use Rattle.link_symbols.specs.declared.fault.LinkFault.{LinkFault}
 use Rattle.linker.specs.Image.{linked_image}
 use Rattle.linker.specs.Laws.{AreBytes, LinkedIsImage}
 use Rattle.linker.specs.Refusals.{link_fault_of}
-use Rattle.written_machine.specs.Peers.{Peers}
+use Rattle.written_machine.specs.Peers.{DifferInData, Peers}
 use Rattle.written_machine.specs.View.{View, view_of}
 use Rattle.isolation.specs.Laws.{SameTraces, SameViews}
-use Rattle.peer_rows.specs.Laws.{DifferInData, AcceptedArePeers}
+use Rattle.peer_rows.specs.Laws.{AcceptedArePeers}
 use Rattle.cli_files.specs.Files.{Held, an_image, a_schedule, a_layout, an_object, layout_file, object_file, image_file, need, object_needs, schedule_needs, Holds, HoldAll, IsScheduleOf}
 use Rattle.cli_calls.specs.Command.{Answer, Answers, IsAnswer, done, run_status, runs, trace_answer}
 use Rattle.sm_cli.specs.ImageCommand.{image_command}
@@ -135,12 +135,12 @@ module _ (files : FileMap) (layout_name : List ℕ) (names : List (List ℕ)) wh
       → DifferInData value other id owner → Peers value other id × RunsAlike files layout_name names other
   joined law accepted traces views name id value other owner are links file said d =
       let linked = link_writes law are (text_answer value) links in
-      let same : linked.value ≡ value = images_of_one_text linked.value value linked.image d.image_a (ap (λ (a : Answer). a.text) (sym linked.text)) in
+      let same : linked.value ≡ value = images_of_one_text linked.value value linked.image d.images.0 (ap (λ (a : Answer). a.text) (sym linked.text)) in
       let peers = accepted_by said in
-      (peers, runs_alike traces views (text_answer value) linked other id (subst (λ v. Peers v other id) (sym same) peers) d.image_b)
+      (peers, runs_alike traces views (text_answer value) linked other id (subst (λ v. Peers v other id) (sym same) peers) d.images.1)
     where
       accepted_by : SaysYes files name id → Peers value other id
-      accepted_by (inl check) = accepted value other id owner [] d (check_accepted files name value id owner d.image_a file d.owned check.0 check.2 check.1)
+      accepted_by (inl check) = accepted value other id owner [] d (check_accepted files name value id owner d.images.0 file d.owned check.0 check.2 check.1)
       accepted_by (inr balance) =
-          let verdict = balance_accepted files name value id owner d.image_a file d.owned balance.0 balance.1.0 balance.1.2 balance.1.1 in
+          let verdict = balance_accepted files name value id owner d.images.0 file d.owned balance.0 balance.1.0 balance.1.2 balance.1.1 in
           accepted value other id owner verdict.0 d verdict.1

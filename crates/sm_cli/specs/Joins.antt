@@ -10,11 +10,10 @@ use Rattle.schedule_file.specs.declared.Entry.{Entry}
 use Rattle.linker.specs.Laws.{AreBytes}
 use Rattle.vendor_tool.specs.declared.Challenge.{Challenge}
 use Rattle.vendor_tool.specs.Laws.{StandsInPlace}
-use Rattle.written_machine.specs.Peers.{Peers}
+use Rattle.written_machine.specs.Peers.{DifferInData, Peers}
 use Rattle.written_machine.specs.Trace.{trace}
 use Rattle.written_machine.specs.View.{boot}
 use Rattle.machine_replies.specs.Laws.{sent_after}
-use Rattle.peer_rows.specs.Laws.{DifferInData}
 use Rattle.cli_files.specs.declared.answers.Status.TheVariants.{Done}
 use Rattle.cli_files.specs.Files.{IsScheduleOf, Holds, need, image_with, an_image, challenges_file, the_challenges}
 use Rattle.cli_calls.specs.Words.{Text}

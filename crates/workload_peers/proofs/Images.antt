@@ -11,7 +11,7 @@ use Rattle.mod_layout.specs.declared.TheConstants.{RESET_VECTOR}
 use Rattle.mod_layout.specs.Table.{holds}
 use Rattle.mod_layout.specs.Tables.{IsModule}
 use Rattle.image_text.specs.Image.{IsImage}
-use Rattle.peer_rows.specs.Laws.{DifferInData}
+use Rattle.written_machine.specs.Peers.{DifferInData}
 use Rattle.peer_rows.specs.Rows.{row_module}
 use Rattle.workload.specs.declared.program.TheConstants.{START, PROGRAM, TEXT, DATA, HANDLER, LINE_VECTOR}
 use Rattle.sm_words.specs.Bytes.{word_bytes}
@@ -118,8 +118,7 @@ is_image v small = record {
 pub differ : (v w : ℕ) → v < 65536 → w < 65536 → DifferInData (image v) (image w) 1 (row_module 0x0322)
 unfolding image
 differ v w a b = record {
-  image_a = is_image v a;
-  image_b = is_image w b;
+  images = (is_image v a, is_image w b);
   table = refl;
   node_key = refl;
   handler_sp = refl;

@@ -1,5 +1,5 @@
 -- What a script does and shows.
-use Rattle.std.specs.Prelude.{ℕ, zero, suc, ◌+◌, List, [], ◌∷◌, ◌++◌, length, nat_lt, if◌then◌else◌, Bool, true, false, Option, Some, None, codes}
+use Rattle.std.specs.Prelude.{ℕ, zero, suc, ◌+◌, List, [], ◌∷◌, ◌++◌, length, nat_lt, if◌then◌else◌, Option, Some, None, codes}
 use Rattle.std.specs.Fmt.{decimal}
 use Rattle.std.specs.List.{flat_map}
 use Rattle.mod_layout.specs.Table.{Table, place_of}
@@ -10,7 +10,6 @@ use Rattle.tracer.specs.Lines.{registers_from}
 use Rattle.written_machine.specs.Cycle.{cycle, after_cycles}
 use Rattle.written_machine.specs.Marks.{Marked, at_state, marked, back_to, last_at}
 use Rattle.written_machine.specs.Standing.{cycles_until}
-use Rattle.written_machine.specs.State.{State}
 use Rattle.written_machine.specs.Trace.{event_lines, end_line_of}
 use Rattle.written_machine.specs.View.{View, view_of}
 use Rattle.written_machine.specs.declared.Hidden.TheVariants.{All as AllHidden}
