@@ -3,9 +3,10 @@ use Rattle.std.proofs.Common.{◌≡◌, ℕ, List, [], ◌∷◌, ◌++◌, set
 use Rattle.flow_rule.specs.declared.Val.{Val}
 use Rattle.flow_rule.specs.declared.Val.TheVariants.{Secret}
 use Rattle.flow_rule.specs.Values.{set_each, put_val}
-use Rattle.flow_rule.specs.Arms.{blot_core}
+use Rattle.flow_rule.specs.Arms.{clobbered_core}
 
-pub core_append : (xs ys : List ℕ) (core : List Val) → blot_core (xs ++ ys) core ≡ blot_core ys (blot_core xs core)
+pub core_append : (xs ys : List ℕ) (core : List Val) →
+    clobbered_core (xs ++ ys) core ≡ clobbered_core ys (clobbered_core xs core)
 core_append [] ys core = refl
 core_append (x ∷ xs) ys core = core_append xs ys (put_val core x Secret)
 

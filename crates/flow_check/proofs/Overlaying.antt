@@ -1,11 +1,11 @@
--- What was blotted of a blank label, laid over another label's values, is these values blotted.
+-- What was clobbered of a blank label, laid over another label's values, is these values clobbered.
 use Rattle.std.proofs.Common.{◌≡◌, ℕ, zero, suc, List, [], ◌∷◌, length, set, refl, ap, ◌∙◌, arith, Bool, true, false, cond, ◌==◌}
 use Rattle.std.specs.Prelude.{replicate}
 use Rattle.flow_rule.specs.declared.Label.{Label}
 use Rattle.flow_rule.specs.declared.Val.{Val}
 use Rattle.flow_rule.specs.declared.Val.TheVariants.{Known, Public, Secret}
 use Rattle.flow_rule.specs.Values.{set_each, kept_val, put_val}
-use Rattle.flow_rule.specs.Arms.{Walk, Meets, Stops, blot_core, blot}
+use Rattle.flow_rule.specs.Arms.{Walk, Meets, Stops, clobbered_core, clobbered_by}
 use Rattle.flow_check.specs.internal.Summaries.{blank_label, laid, overlay}
 
 over_set : (b c : List Val) (n : ℕ) (v : Val) → ((x : Val) → laid v x ≡ v) →
@@ -25,10 +25,10 @@ never_public n x = by (n == 2) (n == 3)
     by false true = refl
     by false false = refl
 
-over_core : (ns : List ℕ) (b c : List Val) → overlay (blot_core ns b) c ≡ blot_core ns (overlay b c)
+over_core : (ns : List ℕ) (b c : List Val) → overlay (clobbered_core ns b) c ≡ clobbered_core ns (overlay b c)
 over_core [] b c = refl
 over_core (n ∷ ns) b c = over_core ns (put_val b n Secret) c
-    ∙ ap (blot_core ns) (over_set b c n (kept_val n Secret) (never_public n))
+    ∙ ap (clobbered_core ns) (over_set b c n (kept_val n Secret) (never_public n))
 
 over_words : (ns : List ℕ) (b c : List Val) → overlay (set_each ns Secret b) c ≡ set_each ns Secret (overlay b c)
 over_words [] b c = refl
@@ -49,14 +49,15 @@ over_blank l core words =
     ap (λ v. record { core = v; words = overlay blank_label.words l.words }) (over_public 16 l.core core)
     ∙ ap (λ v. record l { words = v }) (over_public 256 l.words words)
 
-over_blot : (w : Walk) (b l : Label) → over (blot w b) l ≡ blot w (over b l)
-over_blot (Meets cycles regs words) b l =
+over_clobbered : (w : Walk) (b l : Label) → over (clobbered_by w b) l ≡ clobbered_by w (over b l)
+over_clobbered (Meets cycles regs words) b l =
     let ws = overlay (set_each words Secret b.words) l.words in
     ap (λ v. record { core = v; words = ws }) (over_core regs b.core l.core)
-    ∙ ap (λ v. record { core = blot_core regs (overlay b.core l.core); words = v }) (over_words words b.words l.words)
-over_blot (Stops addr) b l = refl
+    ∙ ap (λ v. record { core = clobbered_core regs (overlay b.core l.core); words = v })
+    (over_words words b.words l.words)
+over_clobbered (Stops addr) b l = refl
 
 pub over_both : (w0 w1 : Walk) (l : Label) → length l.core ≡ 16 → length l.words ≡ 256 →
-    over (blot w1 (blot w0 blank_label)) l ≡ blot w1 (blot w0 l)
+    over (clobbered_by w1 (clobbered_by w0 blank_label)) l ≡ clobbered_by w1 (clobbered_by w0 l)
 over_both w0 w1 l core words =
-    over_blot w1 (blot w0 blank_label) l ∙ ap (blot w1) (over_blot w0 blank_label l ∙ ap (blot w0) (over_blank l core words))
+    over_clobbered w1 (clobbered_by w0 blank_label) l ∙ ap (clobbered_by w1) (over_clobbered w0 blank_label l ∙ ap (clobbered_by w0) (over_blank l core words))

@@ -7,15 +7,16 @@ use Rattle.flow_rule.specs.declared.Reason.TheVariants.{TooMany}
 use Rattle.flow_rule.specs.declared.Label.{Label}
 use Rattle.flow_rule.specs.declared.Verdict.{Verdict}
 use Rattle.flow_rule.specs.declared.Verdict.TheVariants.{No}
-use Rattle.flow_rule.specs.Rounds.{Found, Point, FlowStep, join_all, given_points, IsLabelling, all_reasons}
-use Rattle.flow_rule.specs.Reasons.{number_of, NotAfter, BeforeAll, AmongThem}
+use Rattle.flow_rule.specs.Rounds.{RuleViolation, Point, FlowStep, join_all, given_points, IsLabelling, all_violations}
+use Rattle.flow_rule.specs.Violations.{number_of, NotAfter, BeforeAll, AmongThem}
 use Rattle.flow_rule.specs.Verdict.{Decided}
 use Rattle.flow_check.specs.declared.violation.Violation.{Violation}
 use Rattle.flow_check.specs.declared.point.Point.{Point as CodePoint}
 use Rattle.flow_check.specs.declared.labelling.Node.{Node}
 use Rattle.flow_check.specs.declared.labelling.Changed.{Changed}
 use Rattle.flow_check.specs.declared.call_string.CallString.{CallString}
-use Rattle.flow_check.specs.internal.Violations.{before, lesser, lesser_if, violation_of, noted, found, verdict_of}
+use Rattle.flow_check.specs.internal.Violations.{before, lesser, lesser_if, violation_of, noted}
+use Rattle.flow_check.specs.internal.Violations.{rule_violation, verdict_of}
 use Rattle.flow_check.specs.internal.Points.{point_at, points_of, fronts_of, list_of}
 use Rattle.flow_check.specs.internal.Labellings.{changed_points, Reached}
 use Rattle.flow_check.proofs.Violations.{noted_append}
@@ -55,82 +56,85 @@ lex_trans a b c d e f (inr p) (inr q) = let h = p.1 in let k = q.1 in inr (p.0 �
 abbrev second : Violation → Violation → Bool
 second c old = nat_lt (number_of c.reason) (number_of old.reason) || ((number_of c.reason == number_of old.reason) && nat_lt c.value old.value)
 
-after_trans : (x y z : Found) → NotAfter x y → NotAfter y z → NotAfter x z
+after_trans : (x y z : RuleViolation) → NotAfter x y → NotAfter y z → NotAfter x z
 after_trans x y z (inl p) (inl q) = inl (omega (arith, p, q))
 after_trans x y z (inl p) (inr q) = inl (subst (λ a. x.addr < a) q.0 p)
 after_trans x y z (inr p) (inl q) = inl (subst (λ a. a < z.addr) (sym p.0) q)
 after_trans x y z (inr p) (inr q) = inr (p.0 ∙ q.0, lex_trans (number_of x.why) x.value (number_of y.why) y.value (number_of z.why) z.value p.1 q.1)
 
-after_same : (x : Found) → NotAfter x x
+after_same : (x : RuleViolation) → NotAfter x x
 after_same x = inr (refl, inr (refl, omega arith))
 
-first_true : (c old : Violation) → before c old ≡ true → NotAfter (found c) (found old)
+first_true : (c old : Violation) → before c old ≡ true → NotAfter (rule_violation c) (rule_violation old)
 first_true c old e = by (nat_lt c.addr old.addr) (c.addr == old.addr) (second c old) refl refl refl e
   where
-    by : (a b s : Bool) → nat_lt c.addr old.addr ≡ a → (c.addr == old.addr) ≡ b → second c old ≡ s → (a || (b && s)) ≡ true → NotAfter (found c) (found old)
+    by : (a b s : Bool) → nat_lt c.addr old.addr ≡ a → (c.addr == old.addr) ≡ b → second c old ≡ s → (a || (b && s)) ≡ true → NotAfter (rule_violation c) (rule_violation old)
     by true b s p q r e = inl (ltb-true c.addr old.addr p)
     by false true true p q r e = inr (eqb-true c.addr old.addr q, lex_true (number_of c.reason) (number_of old.reason) c.value old.value r)
     by false _ _ p q r e = absurd cc
 
-first_false : (c old : Violation) → before c old ≡ false → NotAfter (found old) (found c)
+first_false : (c old : Violation) → before c old ≡ false → NotAfter (rule_violation old) (rule_violation c)
 first_false c old e = by (nat_lt c.addr old.addr) (c.addr == old.addr) (second c old) refl refl refl e
   where
-    by : (a b s : Bool) → nat_lt c.addr old.addr ≡ a → (c.addr == old.addr) ≡ b → second c old ≡ s → (a || (b && s)) ≡ false → NotAfter (found old) (found c)
+    by : (a b s : Bool) → nat_lt c.addr old.addr ≡ a → (c.addr == old.addr) ≡ b → second c old ≡ s → (a || (b && s)) ≡ false → NotAfter (rule_violation old) (rule_violation c)
     by false true false p q r e = inr (sym (eqb-true c.addr old.addr q), lex_false (number_of c.reason) (number_of old.reason) c.value old.value r)
     by false false s p q r e = inl (eq_not c.addr old.addr q (ltb-false c.addr old.addr p))
     by _ _ _ p q r e = absurd cc
 
 -- ---- the least of a list
-abbrev Least : Option Violation → List Found → Type 0
+abbrev Least : Option Violation → List RuleViolation → Type 0
 Least None rs = rs ≡ []
-Least (Some c) rs = AmongThem (found c) rs × BeforeAll (found c) rs
+Least (Some c) rs = AmongThem (rule_violation c) rs × BeforeAll (rule_violation c) rs
 
-among_left : (r : Found) (xs ys : List Found) → AmongThem r xs → AmongThem r (xs ++ ys)
+among_left : (r : RuleViolation) (xs ys : List RuleViolation) → AmongThem r xs → AmongThem r (xs ++ ys)
 among_left r [] ys h = absurd h
 among_left r (x ∷ xs) ys (inl e) = inl e
 among_left r (x ∷ xs) ys (inr h) = inr (among_left r xs ys h)
 
-among_right : (r : Found) (xs ys : List Found) → AmongThem r ys → AmongThem r (xs ++ ys)
+among_right : (r : RuleViolation) (xs ys : List RuleViolation) → AmongThem r ys → AmongThem r (xs ++ ys)
 among_right r [] ys h = h
 among_right r (x ∷ xs) ys h = inr (among_right r xs ys h)
 
-before_both : (r : Found) (xs ys : List Found) → BeforeAll r xs → BeforeAll r ys → BeforeAll r (xs ++ ys)
+before_both : (r : RuleViolation) (xs ys : List RuleViolation) → BeforeAll r xs → BeforeAll r ys →
+    BeforeAll r (xs ++ ys)
 before_both r [] ys h k = k
 before_both r (x ∷ xs) ys h k = (h.0, before_both r xs ys h.1 k)
 
-before_more : (r s : Found) (xs : List Found) → NotAfter r s → BeforeAll s xs → BeforeAll r xs
+before_more : (r s : RuleViolation) (xs : List RuleViolation) → NotAfter r s → BeforeAll s xs → BeforeAll r xs
 before_more r s [] h k = tt
 before_more r s (x ∷ xs) h k = (after_trans r s x h k.0, before_more r s xs h k.1)
 
-least_one : (o : Option Violation) (c : Violation) (xs : List Found) → Least o xs → Least (lesser o c) (xs ++ found c ∷ [])
-least_one None c xs h = subst (λ l. Least (Some c) (l ++ found c ∷ [])) (sym h) (inl refl, (after_same (found c), tt))
+least_one : (o : Option Violation) (c : Violation) (xs : List RuleViolation) → Least o xs → Least (lesser o c) (xs ++ rule_violation c ∷ [])
+least_one None c xs h =
+    subst (λ l. Least (Some c) (l ++ rule_violation c ∷ [])) (sym h) (inl refl, (after_same (rule_violation c), tt))
 least_one (Some old) c xs h = by (before c old) refl
   where
-    by : (b : Bool) → before c old ≡ b → Least (lesser_if b c old) (xs ++ found c ∷ [])
-    by true e = (among_right (found c) xs (found c ∷ []) (inl refl), before_both (found c) xs (found c ∷ []) (before_more (found c) (found old) xs (first_true c old e) h.1) (after_same (found c), tt))
-    by false e = (among_left (found old) xs (found c ∷ []) h.0, before_both (found old) xs (found c ∷ []) h.1 (first_false c old e, tt))
+    by : (b : Bool) → before c old ≡ b → Least (lesser_if b c old) (xs ++ rule_violation c ∷ [])
+    by true e = (among_right (rule_violation c) xs (rule_violation c ∷ []) (inl refl), before_both (rule_violation c) xs (rule_violation c ∷ []) (before_more (rule_violation c) (rule_violation old) xs (first_true c old e) h.1) (after_same (rule_violation c), tt))
+    by false e = (among_left (rule_violation old) xs (rule_violation c ∷ []) h.0, before_both (rule_violation old) xs (rule_violation c ∷ []) h.1 (first_false c old e, tt))
 
-least_noted : (rs : List Found) (o : Option Violation) (xs : List Found) → Least o xs → Least (noted rs o) (xs ++ rs)
+least_noted : (rs : List RuleViolation) (o : Option Violation) (xs : List RuleViolation) → Least o xs →
+    Least (noted rs o) (xs ++ rs)
 least_noted [] o xs h = subst (λ l. Least o l) (sym (append-nil xs)) h
 least_noted (r ∷ rs) o xs h =
     subst (λ l. Least (noted rs (lesser o (violation_of r))) l) (append_assoc xs (r ∷ []) rs)
     (least_noted rs (lesser o (violation_of r)) (xs ++ r ∷ []) (least_one o (violation_of r) xs h))
 
 -- ---- the code's loop
-pub least_more : (step : Point → FlowStep) (i : ℕ) (ns : List Node) (p : CodePoint) (o r : Option Violation) → points_of (drop i ns) ≡ point_at p ∷ points_of (drop (i + 1) ns) → r ≡ noted (step (point_at p)).reasons o →
-    noted (all_reasons step (points_of (drop i ns))) o ≡ noted (all_reasons step (points_of (drop (i + 1) ns))) r
+pub least_more : (step : Point → FlowStep) (i : ℕ) (ns : List Node) (p : CodePoint) (o r : Option Violation) → points_of (drop i ns) ≡ point_at p ∷ points_of (drop (i + 1) ns) → r ≡ noted (step (point_at p)).violations o →
+    noted (all_violations step (points_of (drop i ns))) o ≡ noted (all_violations step (points_of (drop (i + 1) ns))) r
 least_more step i ns p o r here e =
-    ap (λ xs. noted (all_reasons step xs) o) here ∙ noted_append (step (point_at p)).reasons (all_reasons step (points_of (drop (i + 1) ns))) o
-    ∙ ap (noted (all_reasons step (points_of (drop (i + 1) ns)))) (sym e)
+    ap (λ xs. noted (all_violations step xs) o) here ∙ noted_append (step (point_at p)).violations (all_violations step (points_of (drop (i + 1) ns))) o
+    ∙ ap (noted (all_violations step (points_of (drop (i + 1) ns)))) (sym e)
 
-pub least_end : (step : Point → FlowStep) (n : ℕ) (ns : List Node) (o : Option Violation) → length ns ≤ n → noted (all_reasons step (points_of (drop n ns))) o ≡ o
-least_end step n ns o h = ap (λ p. noted (all_reasons step (points_of p)) o) (drop_of_length-le ns {i = n} h)
+pub least_end : (step : Point → FlowStep) (n : ℕ) (ns : List Node) (o : Option Violation) → length ns ≤ n → noted (all_violations step (points_of (drop n ns))) o ≡ o
+least_end step n ns o h = ap (λ p. noted (all_violations step (points_of p)) o) (drop_of_length-le ns {i = n} h)
 
 -- ---- the verdict
-pub decided_rest : (step : Point → FlowStep) (start : Point) (begin : ℕ) (ns : List Node) (o : Option Violation) (v : Verdict) → length ns ≤ 16384 → v ≡ verdict_of o → o ≡ noted (all_reasons step (points_of ns)) None →
+pub decided_rest : (step : Point → FlowStep) (start : Point) (begin : ℕ) (ns : List Node) (o : Option Violation) (v : Verdict) → length ns ≤ 16384 → v ≡ verdict_of o → o ≡ noted (all_violations step (points_of ns)) None →
     IsLabelling step start (points_of ns) → Decided step start begin v
 decided_rest step start begin ns o v few ev eo is =
-    subst (λ v. Decided step start begin v) (sym ev) (by o (subst (λ o. Least o (all_reasons step xs)) (sym eo) (least_noted (all_reasons step xs) None [] refl)))
+    subst (λ v. Decided step start begin v) (sym ev) (by o (subst (λ o. Least o (all_violations step xs)) (sym eo) (least_noted (all_violations step xs) None [] refl)))
   where
     xs : List Point
     xs = points_of ns
@@ -138,7 +142,7 @@ decided_rest step start begin ns o v few ev eo is =
     long : length xs ≤ 16384
     long = let h = points_long ns in omega (arith, h, few)
 
-    by : (o : Option Violation) → Least o (all_reasons step xs) → Decided step start begin (verdict_of o)
+    by : (o : Option Violation) → Least o (all_violations step xs) → Decided step start begin (verdict_of o)
     by None h = (xs, is, long, h)
     by (Some c) h = inl (xs, is, long, h.0, h.1)
 

@@ -1,4 +1,4 @@
--- The least of the reasons that are found.
+-- The least of the violations.
 use Rattle.std.proofs.Common.{◌≢◌, ◌==◌, ◌≡◌, ℕ, zero, suc, ◌+◌, ◌-◌, ◌<◌, ◌≤◌, List, [], ◌∷◌, ◌++◌, length, refl, sym, ap, ◌∙◌, arith, true, false, cond, Option, append_assoc}
 use Rattle.std.specs.Prelude.{ℤ, Some}
 use Rattle.sm_words.specs.Words.{nth, word_at}
@@ -12,47 +12,48 @@ use Rattle.flow_rule.specs.declared.Reason.TheVariants.{SecretAtExit, DataAtExit
 use Rattle.std.proofs.lemmas.Bool.Decides.{nat_tests}
 use Rattle.flow_rule.specs.declared.Val.TheVariants.{Secret}
 use Rattle.flow_rule.specs.declared.Reason.TheVariants.{Illegal, UnknownTarget, SecretBranch}
-use Rattle.flow_rule.specs.Rounds.{Found, FlowStep, Point}
+use Rattle.flow_rule.specs.Rounds.{RuleViolation, FlowStep, Point}
 use Rattle.flow_rule.specs.Values.{is_secret, val}
 use Rattle.arm_balance.specs.Met.{text_byte}
 use Rattle.flow_rule.specs.Does.{word_no, past_val, does_val, writes_val}
-use Rattle.flow_rule.specs.Reasons.{exit_reasons, word_reasons, reach_reasons, reach_reasons_by, because, because_if}
+use Rattle.flow_rule.specs.Violations.{exit_violations, word_violations, reach_violations, reach_violations_by}
+use Rattle.flow_rule.specs.Violations.{violation, violation_if}
 use Rattle.flow_rule.specs.Going.{goes, also, both, fails}
 use Rattle.flow_rule.specs.Steps.{step_jump, step_insn, step_of}
-use Rattle.flow_rule.specs.Stub.{shut_reasons, shut_if, is_shut, is_open, word_number, step_stub, step_entries, to_entries, text_word}
+use Rattle.flow_rule.specs.Stub.{shut_violations, shut_if, is_shut, is_open, word_number, step_stub, step_entries, to_entries, text_word}
 use Rattle.flow_check.specs.declared.violation.Violation.{Violation}
 use Rattle.flow_check.specs.internal.Violations.{lesser, noted, shut_at, entry_addrs}
 use Rattle.flow_check.specs.internal.Points.{addrs_of}
 
-pub noted_append : (xs ys : List Found) (o : Option Violation) → noted (xs ++ ys) o ≡ noted ys (noted xs o)
+pub noted_append : (xs ys : List RuleViolation) (o : Option Violation) → noted (xs ++ ys) o ≡ noted ys (noted xs o)
 noted_append [] ys o = refl
 noted_append (x ∷ xs) ys o = noted_append xs ys _
 
-pub reach_more : (m : Module) (pc : ℕ) (x : Reach) (xs : List Reach) (o p : Option Violation) → p ≡ noted (reach_reasons_by x.addr m pc x) o →
-    noted (reach_reasons m pc (x ∷ xs)) o ≡ noted (reach_reasons m pc xs) p
-reach_more m pc x xs o p e = noted_append (reach_reasons_by x.addr m pc x) (reach_reasons m pc xs) o ∙ ap (noted (reach_reasons m pc xs)) (sym e)
+pub reach_more : (m : Module) (pc : ℕ) (x : Reach) (xs : List Reach) (o p : Option Violation) → p ≡ noted (reach_violations_by x.addr m pc x) o →
+    noted (reach_violations m pc (x ∷ xs)) o ≡ noted (reach_violations m pc xs) p
+reach_more m pc x xs o p e = noted_append (reach_violations_by x.addr m pc x) (reach_violations m pc xs) o ∙ ap (noted (reach_violations m pc xs)) (sym e)
 
-pub word_more : (m : Module) (pc a : ℕ) (words : List Val) (addrs : List ℕ) (o p : Option Violation) → p ≡ noted (because_if (is_secret (nth (word_no m a) words Secret)) pc DataAtExit a) o →
-    noted (word_reasons m pc words (a ∷ addrs)) o ≡ noted (word_reasons m pc words addrs) p
+pub word_more : (m : Module) (pc a : ℕ) (words : List Val) (addrs : List ℕ) (o p : Option Violation) → p ≡ noted (violation_if (is_secret (nth (word_no m a) words Secret)) pc DataAtExit a) o →
+    noted (word_violations m pc words (a ∷ addrs)) o ≡ noted (word_violations m pc words addrs) p
 word_more m pc a words addrs o p e =
-    noted_append (because_if (is_secret (nth (word_no m a) words Secret)) pc DataAtExit a) (word_reasons m pc words addrs) o ∙ ap (noted (word_reasons m pc words addrs)) (sym e)
+    noted_append (violation_if (is_secret (nth (word_no m a) words Secret)) pc DataAtExit a) (word_violations m pc words addrs) o ∙ ap (noted (word_violations m pc words addrs)) (sym e)
 
 -- ---- the lowest register that is Secret
 pub exit_found : (n pc : ℕ) (core : List Val) (o : Option Violation) → n < 16 → is_secret (val core n) ≡ true →
-    noted (exit_reasons (16 - n) n pc core) o ≡ lesser o record { addr = pc; reason = SecretAtExit; value = n }
+    noted (exit_violations (16 - n) n pc core) o ≡ lesser o record { addr = pc; reason = SecretAtExit; value = n }
 exit_found n pc core o lt e =
-    ap (λ k. noted (exit_reasons k n pc core) o) (let f : 16 - n ≡ suc (15 - n) = omega arith in f)
-    ∙ ap (λ b. noted (cond b (because pc SecretAtExit n) (exit_reasons (15 - n) (n + 1) pc core)) o) e
+    ap (λ k. noted (exit_violations k n pc core) o) (let f : 16 - n ≡ suc (15 - n) = omega arith in f)
+    ∙ ap (λ b. noted (cond b (violation pc SecretAtExit n) (exit_violations (15 - n) (n + 1) pc core)) o) e
 
 pub exit_next : (n pc : ℕ) (core : List Val) (o : Option Violation) → n < 16 → is_secret (val core n) ≡ false →
-    noted (exit_reasons (16 - n) n pc core) o ≡ noted (exit_reasons (16 - (n + 1)) (n + 1) pc core) o
+    noted (exit_violations (16 - n) n pc core) o ≡ noted (exit_violations (16 - (n + 1)) (n + 1) pc core) o
 exit_next n pc core o lt e =
-    ap (λ k. noted (exit_reasons k n pc core) o) (let f : 16 - n ≡ suc (15 - n) = omega arith in f)
-    ∙ ap (λ b. noted (cond b (because pc SecretAtExit n) (exit_reasons (15 - n) (n + 1) pc core)) o) e
-    ∙ ap (λ k. noted (exit_reasons k (n + 1) pc core) o) (let f : 15 - n ≡ 16 - (n + 1) = omega arith in f)
+    ap (λ k. noted (exit_violations k n pc core) o) (let f : 16 - n ≡ suc (15 - n) = omega arith in f)
+    ∙ ap (λ b. noted (cond b (violation pc SecretAtExit n) (exit_violations (15 - n) (n + 1) pc core)) o) e
+    ∙ ap (λ k. noted (exit_violations k (n + 1) pc core) o) (let f : 15 - n ≡ 16 - (n + 1) = omega arith in f)
 
-pub exit_done : (n pc : ℕ) (core : List Val) (o : Option Violation) → 16 ≤ n → noted (exit_reasons (16 - n) n pc core) o ≡ o
-exit_done n pc core o ge = ap (λ k. noted (exit_reasons k n pc core) o) (let f : 16 - n ≡ 0 = omega arith in f)
+pub exit_done : (n pc : ℕ) (core : List Val) (o : Option Violation) → 16 ≤ n → noted (exit_violations (16 - n) n pc core) o ≡ o
+exit_done n pc core o ge = ap (λ k. noted (exit_violations k n pc core) o) (let f : 16 - n ≡ 0 = omega arith in f)
 
 -- ---- writes
 none_written : (m : Module) (ws : List Val) (xs : List Reach) → writes_val m ws xs [] ≡ ws
@@ -68,7 +69,7 @@ pub addrs_append : (xs ys : List Point) → addrs_of (xs ++ ys) ≡ addrs_of xs 
 addrs_append [] ys = refl
 addrs_append (x ∷ xs) ys = ap (λ l. x.pair.addr ∷ l) (addrs_append xs ys)
 
-pub both_least : (rs xs bs : List Found) (o0 o1 o2 o3 : Option Violation) → o1 ≡ noted rs o0 → o2 ≡ noted xs o1 → o3 ≡ noted bs o2 → o3 ≡ noted (rs ++ (xs ++ bs)) o0
+pub both_least : (rs xs bs : List RuleViolation) (o0 o1 o2 o3 : Option Violation) → o1 ≡ noted rs o0 → o2 ≡ noted xs o1 → o3 ≡ noted bs o2 → o3 ≡ noted (rs ++ (xs ++ bs)) o0
 both_least rs xs bs o0 o1 o2 o3 e1 e2 e3 =
     e3 ∙ ap (noted bs) (e2 ∙ ap (noted xs) e1) ∙ sym (noted_append rs (xs ++ bs) o0 ∙ noted_append xs bs (noted rs o0))
 
@@ -81,7 +82,7 @@ taken_to terms m insn x = goes terms m x.pair.addr x.pair.returns (does_val insn
 
 abbrev either_way : Terms → Module → Insn → Point → FlowStep
 either_way terms m insn x =
-    also (because_if (is_secret (val x.label.core 2)) x.pair.addr SecretBranch 0)
+    also (violation_if (is_secret (val x.label.core 2)) x.pair.addr SecretBranch 0)
     (both (taken_to terms m insn x) (goes terms m x.pair.addr x.pair.returns (past_val insn x.pair.addr x.label.core) x.label.words))
 
 pub jump_seven : (terms : Terms) (m : Module) (text : List ℕ) (insn : Insn) (cond_no : ℕ) (x : Point) → cond_no ≡ 7 →
@@ -101,17 +102,17 @@ pub reti_same : (terms : Terms) (m : Module) (text : List ℕ) (insn : Insn) (x 
 reti_same terms m text insn x e = sym (ap (λ i. step_insn terms m text (Some i) x) e)
 
 -- ---- steps into the closed words of a stub
-shut_same : (m : Module) (pc : ℕ) (gs : List Point) → shut_reasons m pc gs ≡ shut_at m pc (addrs_of gs)
+shut_same : (m : Module) (pc : ℕ) (gs : List Point) → shut_violations m pc gs ≡ shut_at m pc (addrs_of gs)
 shut_same m pc [] = refl
-shut_same m pc (x ∷ gs) = ap (λ rs. because_if (is_shut (word_number m x.pair.addr)) pc UnknownTarget 0 ++ rs) (shut_same m pc gs)
+shut_same m pc (x ∷ gs) = ap (λ rs. violation_if (is_shut (word_number m x.pair.addr)) pc UnknownTarget 0 ++ rs) (shut_same m pc gs)
 
-pub shut_more : (m : Module) (pc a : ℕ) (more : List ℕ) (o p : Option Violation) → p ≡ noted (because_if (is_shut (word_number m a)) pc UnknownTarget 0) o → noted (shut_at m pc (a ∷ more)) o ≡ noted (shut_at m pc more) p
-shut_more m pc a more o p e = noted_append (because_if (is_shut (word_number m a)) pc UnknownTarget 0) (shut_at m pc more) o ∙ ap (noted (shut_at m pc more)) (sym e)
+pub shut_more : (m : Module) (pc a : ℕ) (more : List ℕ) (o p : Option Violation) → p ≡ noted (violation_if (is_shut (word_number m a)) pc UnknownTarget 0) o → noted (shut_at m pc (a ∷ more)) o ≡ noted (shut_at m pc more) p
+shut_more m pc a more o p e = noted_append (violation_if (is_shut (word_number m a)) pc UnknownTarget 0) (shut_at m pc more) o ∙ ap (noted (shut_at m pc more)) (sym e)
 
-pub shut_after : (m : Module) (pc : ℕ) (s : FlowStep) (ts : List ℕ) (o0 o1 o2 : Option Violation) → o1 ≡ noted s.reasons o0 → ts ≡ addrs_of s.gives → o2 ≡ noted (shut_at m pc ts) o1 →
-    o2 ≡ noted (s.reasons ++ shut_reasons m pc s.gives) o0
+pub shut_after : (m : Module) (pc : ℕ) (s : FlowStep) (ts : List ℕ) (o0 o1 o2 : Option Violation) → o1 ≡ noted s.violations o0 → ts ≡ addrs_of s.gives → o2 ≡ noted (shut_at m pc ts) o1 →
+    o2 ≡ noted (s.violations ++ shut_violations m pc s.gives) o0
 shut_after m pc s ts o0 o1 o2 e1 et e2 =
-    e2 ∙ ap (λ t. noted (shut_at m pc t) o1) et ∙ ap (λ rs. noted rs o1) (sym (shut_same m pc s.gives)) ∙ ap (noted (shut_reasons m pc s.gives)) e1 ∙ sym (noted_append s.reasons (shut_reasons m pc s.gives) o0)
+    e2 ∙ ap (λ t. noted (shut_at m pc t) o1) et ∙ ap (λ rs. noted rs o1) (sym (shut_same m pc s.gives)) ∙ ap (noted (shut_violations m pc s.gives)) e1 ∙ sym (noted_append s.violations (shut_violations m pc s.gives) o0)
 
 pub stub_open : (terms : Terms) (m : Module) (text : List ℕ) (x : Point) → (word_number m x.pair.addr == 17) ≡ false → is_open (word_number m x.pair.addr) ≡ true → step_of terms m text x ≡ step_stub terms m text x
 unfolding step_stub
@@ -125,8 +126,8 @@ stub_shut terms m text x e f =
     sym (ap (λ b. cond b (step_entries m text x) (shut_if (is_open (word_number m x.pair.addr)) m x.pair.addr (step_of terms m text x))) e
     ∙ ap (λ b. shut_if b m x.pair.addr (step_of terms m text x)) f)
 
-pub entries_least : (m : Module) (pc : ℕ) (push : Reach) (ts : List Found) (o0 o1 o2 : Option Violation) → noted (reach_reasons m pc (push ∷ [])) o0 ≡ o1 → o2 ≡ noted ts o1 → o2 ≡ noted (reach_reasons m pc (push ∷ []) ++ ts) o0
-entries_least m pc push ts o0 o1 o2 e1 e2 = e2 ∙ ap (noted ts) (sym e1) ∙ sym (noted_append (reach_reasons m pc (push ∷ [])) ts o0)
+pub entries_least : (m : Module) (pc : ℕ) (push : Reach) (ts : List RuleViolation) (o0 o1 o2 : Option Violation) → noted (reach_violations m pc (push ∷ [])) o0 ≡ o1 → o2 ≡ noted ts o1 → o2 ≡ noted (reach_violations m pc (push ∷ []) ++ ts) o0
+entries_least m pc push ts o0 o1 o2 e1 e2 = e2 ∙ ap (noted ts) (sym e1) ∙ sym (noted_append (reach_violations m pc (push ∷ [])) ts o0)
 
 pub entries_addrs : (m : Module) (text : List ℕ) (n : ℕ) (rs : List ℕ) (core words : List Val) → addrs_of (to_entries m text n rs core words) ≡ entry_addrs m text n
 entries_addrs m text zero rs core words = refl

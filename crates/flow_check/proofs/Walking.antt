@@ -13,13 +13,13 @@ use Rattle.arm_balance.specs.Balance.{arm_on}
 use Rattle.arm_balance.specs.declared.Arm.{Arm}
 use Rattle.flow_rule.specs.declared.Label.{Label}
 use Rattle.flow_rule.specs.declared.Reason.TheVariants.{ArmTime}
-use Rattle.flow_rule.specs.Rounds.{Found, Point, FlowStep}
+use Rattle.flow_rule.specs.Rounds.{RuleViolation, Point, FlowStep}
 use Rattle.flow_rule.specs.declared.Val.{Val}
 use Rattle.flow_rule.specs.declared.Val.TheVariants.{Secret}
 use Rattle.flow_rule.specs.Values.{is_secret, set_each, val}
 use Rattle.flow_rule.specs.Does.{plan_val, write_reaches}
-use Rattle.flow_rule.specs.Reasons.{because_if}
-use Rattle.flow_rule.specs.Arms.{written_regs, written_words, blot_core, Walk, Meets, Stops, blot, walked, walk_on, arm_reasons, step_branch, step_arms_by, step_arms}
+use Rattle.flow_rule.specs.Violations.{violation_if}
+use Rattle.flow_rule.specs.Arms.{written_regs, written_words, clobbered_core, Walk, Meets, Stops, clobbered_by, walked, walk_on, arm_violations, step_branch, step_arms_by, step_arms}
 use Rattle.flow_check.specs.declared.violation.Violation.{Violation}
 use Rattle.flow_check.specs.declared.branch.BranchSite.{BranchSite}
 use Rattle.flow_check.specs.declared.arm.Tally.{Tally}
@@ -27,7 +27,7 @@ use Rattle.flow_check.specs.internal.Violations.{noted}
 use Rattle.flow_check.specs.declared.program.Program.{Program}
 use Rattle.flow_check.specs.internal.Programs.{flow, base_flow, flow_at, arm_walk}
 use Rattle.flow_check.specs.internal.Points.{addrs_of, points_at, label_at}
-use Rattle.flow_check.specs.internal.Arms.{untold, told_insn, tally_told, told_reasons, told_state, site_from, site_by, step_at}
+use Rattle.flow_check.specs.internal.Arms.{untold, told_insn, tally_told, told_violations, told_state, site_from, site_by, step_at}
 use Rattle.flow_check.proofs.Clobbering.{core_append, words_append}
 use Rattle.flow_check.proofs.Violations.{noted_append}
 
@@ -48,7 +48,7 @@ told_walked insn m x (Stops addr) t = refl
 told_walked insn m x (Meets cycles regs words) t =
     let ws = written_words m (write_reaches (plan_val insn x.pair.addr x.label.core)) in
     let time = t.cycles + cycles_of insn + cycles in
-    let core = blot_core (written_regs insn ++ regs) t.state.core in
+    let core = clobbered_core (written_regs insn ++ regs) t.state.core in
     ap (λ c. told_as c core (set_each (ws ++ words) Secret t.state.words))
     (let e : t.cycles + (cycles_of insn + cycles) ≡ t.cycles + cycles_of insn + cycles = omega arith in e)
     ∙ ap (λ v. told_as time core v) (words_append ws words t.state.words)
@@ -60,19 +60,19 @@ module _ (p : Program) (join : ℕ) where
   abbrev next_at : Point → Option ℕ
   next_at x = arm_on p.module.now.text p.text.now join x.pair.addr
 
-  -- the walk from there, by a step's reasons and gives
-  abbrev onward : ℕ → Option ℕ → List Found → List Point → Point → Walk
+  -- the walk from there, by a step's violations and gives
+  abbrev onward : ℕ → Option ℕ → List RuleViolation → List Point → Point → Walk
   onward steps o rs gs x = walk_on o rs gs p.module.now p.text.now x (arm_walk p join steps)
 
   walk_at : (steps : ℕ) (x : Point) (b : Bool) (o : Option ℕ) → (x.pair.addr == join) ≡ b → next_at x ≡ o →
       arm_walk p join (suc steps) x
-      ≡ cond b (Meets 0 [] []) (onward steps o (base_flow p x).reasons (base_flow p x).gives x)
+      ≡ cond b (Meets 0 [] []) (onward steps o (base_flow p x).violations (base_flow p x).gives x)
   walk_at steps x b o e on =
       let s = base_flow p x in
-      ap (λ b. cond b (Meets 0 [] []) (onward steps (next_at x) s.reasons s.gives x)) e
-      ∙ ap (λ o. cond b (Meets 0 [] []) (onward steps o s.reasons s.gives x)) on
+      ap (λ b. cond b (Meets 0 [] []) (onward steps (next_at x) s.violations s.gives x)) e
+      ∙ ap (λ o. cond b (Meets 0 [] []) (onward steps o s.violations s.gives x)) on
 
-  calm : (steps : ℕ) (x : Point) (next : ℕ) → x.pair.addr ≢ join → next_at x ≡ Some next → (base_flow p x).reasons ≡ [] →
+  calm : (steps : ℕ) (x : Point) (next : ℕ) → x.pair.addr ≢ join → next_at x ≡ Some next → (base_flow p x).violations ≡ [] →
       arm_walk p join (suc steps) x ≡ onward steps (Some next) [] (base_flow p x).gives x
   calm steps x next ne on none =
       walk_at steps x false (Some next) (let f : (x.pair.addr == join) ≡ false = grind (arith, nat_tests) in f) on
@@ -80,14 +80,14 @@ module _ (p : Program) (join : ℕ) where
 
   -- an instruction that leaves the text
   pub walk_leaves : (steps : ℕ) (x : Point) (t : Tally) (next : ℕ) → x.pair.addr ≢ join → next_at x ≡ Some next →
-      (base_flow p x).reasons ≡ [] → (base_flow p x).gives ≡ [] → tally_told (arm_walk p join (suc steps) x) t ≡ Err next
+      (base_flow p x).violations ≡ [] → (base_flow p x).gives ≡ [] → tally_told (arm_walk p join (suc steps) x) t ≡ Err next
   walk_leaves steps x t next ne on none out =
       ap (λ w. tally_told w t) (calm steps x next ne on none ∙ ap (λ gs. onward steps (Some next) [] gs x) out)
 
   -- an instruction that goes on
   pub walk_goes : (steps : ℕ) (x y : Point) (ys : List Point) (t : Tally) (next : ℕ) (insn : Insn) → x.pair.addr ≢ join →
       next_at x ≡ Some next → met p.module.now.text p.text.now x.pair.addr ≡ Some insn →
-      (base_flow p x).reasons ≡ [] → (base_flow p x).gives ≡ y ∷ ys →
+      (base_flow p x).violations ≡ [] → (base_flow p x).gives ≡ y ∷ ys →
       tally_told (arm_walk p join (suc steps) x) t
       ≡ tally_told (arm_walk p join steps y)
       (told_insn (cycles_of insn) insn p.module.now (plan_val insn x.pair.addr x.label.core) t)
@@ -136,15 +136,15 @@ site_is S arms m text x = by (met m.text text x.pair.addr)
         jump false a = refl
     by _ = refl
 
--- the reasons of an arm, by its walk
+-- the violations of an arm, by its walk
 arm_told : (branch time number : ℕ) (w : Walk) (l : Label) →
-    told_reasons branch time number (tally_told w (untold l)) ≡ arm_reasons branch time number w
+    told_violations branch time number (tally_told w (untold l)) ≡ arm_violations branch time number w
 arm_told branch time number (Meets cycles regs words) l =
-    ap (λ n. because_if (not (n == time)) branch ArmTime number) (let e : 0 + cycles ≡ cycles = omega arith in e)
+    ap (λ n. violation_if (not (n == time)) branch ArmTime number) (let e : 0 + cycles ≡ cycles = omega arith in e)
 arm_told branch time number (Stops addr) l = refl
 
 -- the state behind it
-state_told : (w : Walk) (l : Label) → told_state l (tally_told w (untold l)) ≡ blot w l
+state_told : (w : Walk) (l : Label) → told_state l (tally_told w (untold l)) ≡ clobbered_by w l
 state_told (Meets cycles regs words) l = refl
 state_told (Stops addr) l = refl
 
@@ -152,23 +152,25 @@ state_told (Stops addr) l = refl
 module _ (l0 l1 : Label) (w0 w1 : Walk) (r0 r1 : Result Tally ℕ) (first : r0 ≡ tally_told w0 (untold l0))
     (between : l1 ≡ told_state l0 r0) (second : r1 ≡ tally_told w1 (untold l1))
   where
-    -- the least of the reasons at a branch with a certificate
-    pub site_least : (pc time : ℕ) (apart : List Found) (o0 o1 o2 o3 : Option Violation) → o1 ≡ noted apart o0 →
-        o2 ≡ noted (told_reasons pc time 0 r0) o1 → o3 ≡ noted (told_reasons pc time 1 r1) o2 →
-        o3 ≡ noted (apart ++ arm_reasons pc time 0 w0 ++ arm_reasons pc time 1 w1) o0
+    -- the least of the violations at a branch with a certificate
+    pub site_least : (pc time : ℕ) (apart : List RuleViolation) (o0 o1 o2 o3 : Option Violation) → o1 ≡ noted apart o0 →
+        o2 ≡ noted (told_violations pc time 0 r0) o1 → o3 ≡ noted (told_violations pc time 1 r1) o2 →
+        o3 ≡ noted (apart ++ arm_violations pc time 0 w0 ++ arm_violations pc time 1 w1) o0
     site_least pc time apart o0 o1 o2 o3 e1 e2 e3 =
-        let b : List Found = arm_reasons pc time 0 w0 in
-        let d : List Found = arm_reasons pc time 1 w1 in
+        let b : List RuleViolation = arm_violations pc time 0 w0 in
+        let d : List RuleViolation = arm_violations pc time 1 w1 in
         let one : o2 ≡ noted b (noted apart o0) =
-        e2 ∙ ap (λ rs. noted rs o1) (ap (told_reasons pc time 0) first ∙ arm_told pc time 0 w0 l0) ∙ ap (noted b) e1 in
-        e3 ∙ ap (λ rs. noted rs o2) (ap (told_reasons pc time 1) second ∙ arm_told pc time 1 w1 l1) ∙ ap (noted d) one
+        e2 ∙ ap (λ rs. noted rs o1) (ap (told_violations pc time 0) first ∙ arm_told pc time 0 w0 l0)
+        ∙ ap (noted b) e1 in
+        e3 ∙ ap (λ rs. noted rs o2) (ap (told_violations pc time 1) second ∙ arm_told pc time 1 w1 l1)
+        ∙ ap (noted d) one
         ∙ sym (noted_append (apart ++ b) d o0 ∙ ap (noted d) (noted_append apart b o0))
 
     -- Secret where the arms wrote
-    pub site_told : told_state l1 r1 ≡ blot w1 (blot w0 l0)
+    pub site_told : told_state l1 r1 ≡ clobbered_by w1 (clobbered_by w0 l0)
     site_told =
         ap (told_state l1) second ∙ state_told w1 l1
-        ∙ ap (blot w1) (between ∙ ap (told_state l0) first ∙ state_told w0 l0)
+        ∙ ap (clobbered_by w1) (between ∙ ap (told_state l0) first ∙ state_told w0 l0)
 
 -- a step by what stands at the branch
 abbrev site_there : Program → Point → Option BranchSite

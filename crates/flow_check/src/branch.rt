@@ -10,7 +10,7 @@ ghost use Rattle.flow_check.specs.internal.Violations.{noted};
 ghost use Rattle.flow_check.specs.internal.Points.{point_at};
 ghost use Rattle.flow_check.specs.internal.Programs.{flow_at};
 ghost use Rattle.flow_check.specs.internal.Summaries.{clobbered};
-ghost use Rattle.flow_check.specs.internal.Arms.{site_by, told_reasons, told_state};
+ghost use Rattle.flow_check.specs.internal.Arms.{site_by, told_violations, told_state};
 
 use crate::accesses::step_past;
 use crate::arm::{Tally, walk};
@@ -137,7 +137,7 @@ fn take_arm(
     least: &mut Option<Violation>,
     told: &mut Label,
 )
-    ensures least { least.new ≡ noted (told_reasons branch time number walked.now) least.old }
+    ensures least { least.new ≡ noted (told_violations branch time number walked.now) least.old }
     ensures told { told.new ≡ told_state told.old walked.now }
 {
     match *walked {
@@ -165,7 +165,7 @@ pub fn walk_arms(
     told: &mut Label,
     relevance: &mut Relevance,
 )
-    ensures least { least.new ≡ noted (flow_at program.now site.now (point_at from.now)).reasons least.old }
+    ensures least { least.new ≡ noted (flow_at program.now site.now (point_at from.now)).violations least.old }
     ensures told { told.new ≡ clobbered program.now site.now (point_at from.now) told.old }
 {
     let pc = from.addr;

@@ -6,7 +6,7 @@ ghost use Rattle.flow_rule.specs.declared.Val.{Val};
 ghost use Rattle.flow_rule.specs.Values.{set_each};
 ghost use Rattle.flow_rule.specs.Does.{write_reaches};
 ghost use Rattle.flow_check.specs.internal.Arms.{one_regs};
-ghost use Rattle.flow_rule.specs.Arms.{stepped_regs, written_reg, written_regs, written_words, blot_core};
+ghost use Rattle.flow_rule.specs.Arms.{stepped_regs, written_reg, written_regs, written_words, clobbered_core};
 
 use crate::accesses::writes_destination;
 use crate::domain::{Core, Words, put};
@@ -18,7 +18,7 @@ use pc_access::Kind;
 
 /// The register that an operand's increment changes.
 fn clobber_step(operand: Operand, core: &mut Core)
-    ensures { core.new ≡ blot_core (stepped_regs operand) core.old }
+    ensures { core.new ≡ clobbered_core (stepped_regs operand) core.old }
 {
     if let Operand::Increment(reg) = operand {
         put(core, reg, Val::Secret);
@@ -27,7 +27,7 @@ fn clobber_step(operand: Operand, core: &mut Core)
 
 /// The register that is written, if one is.
 fn clobber_written(written: bool, operand: Operand, core: &mut Core)
-    ensures { core.new ≡ blot_core (written_reg written operand) core.old }
+    ensures { core.new ≡ clobbered_core (written_reg written operand) core.old }
 {
     if written && let Operand::Reg(reg) = operand {
         put(core, reg, Val::Secret);
@@ -37,7 +37,7 @@ fn clobber_written(written: bool, operand: Operand, core: &mut Core)
 /// The registers that an instruction writes.
 #[tactic(auto, using(crate::proofs::Clobbering::core_append))]
 pub fn clobber_registers(insn: &Insn, core: &mut Core)
-    ensures { core.new ≡ blot_core (written_regs insn.now) core.old }
+    ensures { core.new ≡ clobbered_core (written_regs insn.now) core.old }
 {
     match *insn {
         Insn::Two { op, src, dst, .. } => {
@@ -54,7 +54,7 @@ pub fn clobber_registers(insn: &Insn, core: &mut Core)
 
 /// What an instruction of format II writes: PUSH lowers SP.
 fn clobber_operand(op: OneOp, arg: Operand, core: &mut Core)
-    ensures { core.new ≡ blot_core (one_regs op arg) core.old }
+    ensures { core.new ≡ clobbered_core (one_regs op arg) core.old }
 {
     if op == OneOp::Push {
         put(core, 1, Val::Secret);

@@ -3,7 +3,7 @@
 ghost use Rattle.std.specs.Prelude.{◌≡◌, ◌∷◌, List, ℕ, slice_set};
 ghost use Rattle.flow_rule.specs.declared.Val.{Val};
 ghost use Rattle.flow_rule.specs.Values.{set_each};
-ghost use Rattle.flow_rule.specs.Reasons.{exit_reasons, word_reasons};
+ghost use Rattle.flow_rule.specs.Violations.{exit_violations, word_violations};
 ghost use Rattle.flow_rule.specs.Going.{closes, exit_step};
 ghost use Rattle.flow_check.specs.internal.Violations.{noted};
 ghost use Rattle.flow_check.specs.internal.Terms.{terms_in};
@@ -17,7 +17,7 @@ use mod_layout::Module;
 
 /// What is wrong with these registers: the lowest that is Secret.
 fn check_registers(pc: u16, core: &Core, least: &mut Option<Violation>)
-    ensures { least.new ≡ noted (exit_reasons 16 0 pc core.now) least.old }
+    ensures { least.new ≡ noted (exit_violations 16 0 pc core.now) least.old }
 {
     for n in 0..16u8 {
         if is_secret(get(core, n)) {
@@ -57,8 +57,8 @@ fn bare(core: &Core, answers: &[u8]) -> Core
 /// What is wrong with a public word, before others.
 #[tactic(auto, using(crate::proofs::Violations::word_more))]
 fn check_word(module: &Module, pc: u16, words: &Words, addr: u16, least: &mut Option<Violation>)
-    ensures { (rest : List ℕ) → noted (word_reasons module.now pc words.now (addr ∷ rest)) least.old
-        ≡ noted (word_reasons module.now pc words.now rest) least.new }
+    ensures { (rest : List ℕ) → noted (word_violations module.now pc words.now (addr ∷ rest)) least.old
+        ≡ noted (word_violations module.now pc words.now rest) least.new }
 {
     let secret = is_secret(known(words, word_number(module, addr)));
     note_if(secret, least, pc, Reason::DataAtExit, addr);
@@ -72,7 +72,7 @@ fn check_words(
     public: &[u16],
     least: &mut Option<Violation>,
 )
-    ensures { least.new ≡ noted (word_reasons module.now pc words.now public.now) least.old }
+    ensures { least.new ≡ noted (word_violations module.now pc words.now public.now) least.old }
 {
     for addr in public {
         check_word(module, pc, words, *addr, least);
@@ -81,7 +81,7 @@ fn check_words(
 
 /// Closes the module with these registers.
 pub fn close(program: &Program<'_>, pc: u16, core: &Core, least: &mut Option<Violation>)
-    ensures { least.new ≡ noted (closes (terms_in program.now) pc core.now).reasons least.old }
+    ensures { least.new ≡ noted (closes (terms_in program.now) pc core.now).violations least.old }
 {
     let bare = bare(core, program.answers);
     check_registers(pc, &bare, least);
@@ -91,7 +91,8 @@ pub fn close(program: &Program<'_>, pc: u16, core: &Core, least: &mut Option<Vio
 #[tactic(auto, using(crate::proofs::Violations::noted_append))]
 pub fn leave(program: &Program<'_>, pc: u16, state: &Label, least: &mut Option<Violation>)
     ensures { least.new ≡ noted
-        (exit_step (terms_in program.now) program.now.module.now pc state.now.core state.now.words).reasons least.old }
+        (exit_step (terms_in program.now) program.now.module.now pc state.now.core state.now.words).violations
+        least.old }
 {
     check_words(program.module, pc, &state.words, program.public, least);
     close(program, pc, &state.core, least);

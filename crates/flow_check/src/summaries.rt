@@ -100,7 +100,7 @@ fn applied(program: &Program<'_>, site: &BranchSite, pc: u16, state: &mut Label)
     ensures open { result ≡ Outcome.Open → (returns : List ℕ) →
         OpensTo program.now site.now (branch_from pc returns state.old) state.new }
     ensures shut { result ≡ Outcome.Shut → (returns : List ℕ) →
-        (flow_at program.now site.now (branch_from pc returns state.old)).reasons ≢ [] }
+        (flow_at program.now site.now (branch_from pc returns state.old)).violations ≢ [] }
 {
     arms_rest();
     let mut none = Relevance::new(false);
@@ -200,7 +200,8 @@ impl Summaries {
         ensures open { result ≡ Some Outcome.Open → (p : Program) (returns : List ℕ) →
             AreSummaries p self.now.list.items → OpensTo p site.now (branch_from pc returns state.old) state.new }
         ensures shut { result ≡ Some Outcome.Shut → (p : Program) (returns : List ℕ) →
-            AreSummaries p self.now.list.items → (flow_at p site.now (branch_from pc returns state.old)).reasons ≢ [] }
+            AreSummaries p self.now.list.items →
+            (flow_at p site.now (branch_from pc returns state.old)).violations ≢ [] }
         ensures silent { result ≡ None → state.new ≡ state.old }
     {
         arms_rest();
@@ -237,7 +238,8 @@ impl Summaries {
         ensures open { result ≡ Some Outcome.Open → (p : Program) (returns : List ℕ) →
             AreSummaries p self.now.list.items → OpensTo p site.now (branch_from pc returns state.old) state.new }
         ensures shut { result ≡ Some Outcome.Shut → (p : Program) (returns : List ℕ) →
-            AreSummaries p self.now.list.items → (flow_at p site.now (branch_from pc returns state.old)).reasons ≢ [] }
+            AreSummaries p self.now.list.items →
+            (flow_at p site.now (branch_from pc returns state.old)).violations ≢ [] }
         ensures silent { result ≡ None → state.new ≡ state.old }
     {
         if let Some(place) = own
@@ -275,7 +277,7 @@ impl Summaries {
         ensures open { IfOk result (λ outcome. outcome ≡ Outcome.Open → (returns : List ℕ) →
             OpensTo program.now site.now (branch_from pc returns state.old) state.new) }
         ensures shut { IfOk result (λ outcome. outcome ≡ Outcome.Shut → (returns : List ℕ) →
-            (flow_at program.now site.now (branch_from pc returns state.old)).reasons ≢ []) }
+            (flow_at program.now site.now (branch_from pc returns state.old)).violations ≢ []) }
         ensures summaries { IfOk result (λ _. AreSummaries program.now self.new.list.items) }
     {
         if let Some(outcome) = self.known(*own, site, pc, state) {
@@ -294,7 +296,7 @@ impl Summaries {
     /// Whether it is known that a branch has no violation under its state.
     pub fn is_open(&self, own: Option<usize>, site: &BranchSite, pc: u16, state: &Label) -> bool
         ensures { result ≡ true → (p : Program) (returns : List ℕ) → AreSummaries p self.now.list.items →
-            (flow_at p site.now (branch_from pc returns state.now)).reasons ≡ [] }
+            (flow_at p site.now (branch_from pc returns state.now)).violations ≡ [] }
     {
         let mut state = *state;
         match self.known(own, site, pc, &mut state) {
@@ -313,7 +315,7 @@ pub fn step_with(
     point: &mut Point,
 ) -> Result<Stepped, AllocError>
     requires summaries { AreSummaries program.now summaries.old.list.items }
-    ensures calm { IfOk result (λ s. s.least ≡ None → (flow program.now (point_at point.old)).reasons ≡ []) }
+    ensures calm { IfOk result (λ s. s.least ≡ None → (flow program.now (point_at point.old)).violations ≡ []) }
     ensures stirred { IfOk result (λ s. (c : Violation) → s.least ≡ Some c →
         given_by (flow program.now (point_at point.old)) ≡ []) }
     ensures targets { IfOk result (λ s. s.least ≡ None → s.targets.items
@@ -351,7 +353,7 @@ fn violation_of_arms(
     mut least: Option<Violation>,
 ) -> Option<Violation>
     requires summaries { AreSummaries program.now summaries.now.list.items }
-    ensures { result ≡ noted (flow_at program.now site.now (point_at point.now)).reasons least }
+    ensures { result ≡ noted (flow_at program.now site.now (point_at point.now)).violations least }
 {
     if summaries.is_open(own, site, point.addr, &point.state) {
         return least;
@@ -371,7 +373,7 @@ pub fn violation_with(
     least: Option<Violation>,
 ) -> Option<Violation>
     requires summaries { AreSummaries program.now summaries.now.list.items }
-    ensures { result ≡ noted (flow program.now (point_at point.now)).reasons least }
+    ensures { result ≡ noted (flow program.now (point_at point.now)).violations least }
 {
     match site_of(program, point.addr, &point.state) {
         Some(site) => violation_of_arms(program, summaries, own, &site, point, least),

@@ -3,7 +3,7 @@
 ghost use Rattle.std.specs.Prelude.{◌≡◌, ◌≤◌, ◌<◌, ◌+◌, [], length, drop, ℕ};
 ghost use Rattle.std.specs.Prelude.{IfOk, None};
 ghost use Rattle.flow_rule.specs.declared.Label.{Label};
-ghost use Rattle.flow_rule.specs.Rounds.{all_reasons, Point, IsLabelling};
+ghost use Rattle.flow_rule.specs.Rounds.{all_violations, Point, IsLabelling};
 ghost use Rattle.flow_rule.specs.Verdict.{Decided};
 ghost use Rattle.flow_check.specs.internal.Violations.{verdict_of, noted};
 ghost use Rattle.flow_check.specs.internal.Points.{points_of};
@@ -29,8 +29,8 @@ fn least_more(
 ) -> Option<Violation>
     requires summaries { AreSummaries program.now summaries.now.list.items }
     requires here { i < length all.now }
-    ensures { noted (all_reasons (flow program.now) (points_of (drop i all.now))) least
-        ≡ noted (all_reasons (flow program.now) (points_of (drop (i + 1) all.now))) result }
+    ensures { noted (all_violations (flow program.now) (points_of (drop i all.now))) least
+        ≡ noted (all_violations (flow program.now) (points_of (drop (i + 1) all.now))) result }
 {
     let point = all.point(i);
     violation_with(program, summaries, all.summary(i), &point, least)
@@ -40,7 +40,7 @@ fn least_more(
 #[tactic(auto, using(crate::proofs::Verdicts::least_end))]
 fn least_of(program: &Program<'_>, summaries: &Summaries, all: &Labelling) -> Option<Violation>
     requires summaries { AreSummaries program.now summaries.now.list.items }
-    ensures { result ≡ noted (all_reasons (flow program.now) (points_of all.now)) None }
+    ensures { result ≡ noted (all_violations (flow program.now) (points_of all.now)) None }
 {
     let mut least: Option<Violation> = None;
     for i in 0..all.len() {

@@ -2,7 +2,7 @@
 
 ghost use Rattle.std.specs.Prelude.{◌≡◌, ◌≤◌, ◌<◌, ◌*◌, ◌==◌};
 ghost use Rattle.std.specs.Prelude.{None, Some};
-ghost use Rattle.flow_rule.specs.Reasons.{number_of, because_if};
+ghost use Rattle.flow_rule.specs.Violations.{number_of, violation_if};
 ghost use Rattle.flow_check.specs.internal.Violations.{before, lesser, noted};
 
 use flow_rule::Reason;
@@ -75,7 +75,7 @@ pub fn note(least: &mut Option<Violation>, addr: u16, reason: Reason, value: u16
 
 /// One violation more, where the test says so.
 pub fn note_if(found: bool, least: &mut Option<Violation>, addr: u16, reason: Reason, value: u16)
-    ensures { least.new ≡ noted (because_if found addr reason value) least.old }
+    ensures { least.new ≡ noted (violation_if found addr reason value) least.old }
 {
     if found {
         note(least, addr, reason, value);

@@ -26,7 +26,7 @@ use Rattle.flow_rule.specs.declared.Reach.{Reach}
 use Rattle.flow_rule.specs.declared.Told.{Told}
 use Rattle.flow_rule.specs.Values.{number, over_one, blurred, val, put_val}
 use Rattle.flow_rule.specs.Does.{place_val, stepped_val, lowered_val, reach_if, one_reach, plan_val, word_no, half, read_at, read_val, write_at, writes_val, Done_val, two_reads, told_of, two_val, one_val, set_flags_by, given_val, after_val, into_register_val, written_val, clears, clears_flags, cleared_if, carry_val, one_done_val, does_val}
-use Rattle.flow_rule.specs.Reasons.{reach_reasons, reach_reasons_by}
+use Rattle.flow_rule.specs.Violations.{reach_violations, reach_violations_by}
 use Rattle.flow_rule.proofs.Meaning.{read_if, flags_if, reads_carry, sets_flags, worked, two_is, one_reads_carry, one_sets_flags, one_worked, one_is}
 use Rattle.flow_rule.proofs.Plans.{none_left, none_right}
 use Rattle.flow_rule.proofs.Absorbing.{AbsorbsVal, AbsorbsEach, AbsorbsOption, over_keeps, over_one_keeps, over_two_keeps, blurred_all_keeps, narrow_keeps, nth_keeps, set_keeps, drop_keeps, put_keeps, past_keeps, EvenPc, put_even, past_even}
@@ -54,9 +54,9 @@ lowered_keeps ts vs p = put_keeps ts vs 1 _ _ p
     (over_one_keeps (λ v. add16 v 65534) (val ts 1) (val vs 1) (nth_keeps ts vs 1 p))
 
 module _ (m : Module) (pc : ℕ) where
-  -- an access without a reason has a known address
+  -- an access without a violation has a known address
   if_same : (t : Bool) (k : Kind) (w : Width) (a b : Option Val) → AbsorbsOption a b →
-      reach_reasons m pc (reach_if t k w a) ≡ [] → reach_if t k w b ≡ reach_if t k w a
+      reach_violations m pc (reach_if t k w a) ≡ [] → reach_if t k w b ≡ reach_if t k w a
   if_same true k w (Some (Known x)) (Some (Known y)) p e = ap (λ i. reach_if true k w (Some (Known i))) p
   if_same true k w (Some (Known x)) (Some v) p e = absurd p
   if_same true k w (Some Away) (Some v) p e = absurd cc
@@ -67,26 +67,29 @@ module _ (m : Module) (pc : ℕ) where
   if_same true k w None (Some v) p e = absurd p
   if_same false k w a b p e = refl
 
-  reasons_append : (xs ys : List Reach) → reach_reasons m pc (xs ++ ys) ≡ reach_reasons m pc xs ++ reach_reasons m pc ys
-  reasons_append [] ys = refl
-  reasons_append (x ∷ xs) ys =
-      ap (λ i. reach_reasons_by x.addr m pc x ++ i) (reasons_append xs ys)
-      ∙ sym (append_assoc (reach_reasons_by x.addr m pc x) (reach_reasons m pc xs) (reach_reasons m pc ys))
+  violations_append : (xs ys : List Reach) →
+      reach_violations m pc (xs ++ ys) ≡ reach_violations m pc xs ++ reach_violations m pc ys
+  violations_append [] ys = refl
+  violations_append (x ∷ xs) ys =
+      ap (λ i. reach_violations_by x.addr m pc x ++ i) (violations_append xs ys)
+      ∙ sym (append_assoc (reach_violations_by x.addr m pc x) (reach_violations m pc xs) (reach_violations m pc ys))
 
-  both_same : (xs ys us vs : List Reach) → reach_reasons m pc (xs ++ ys) ≡ [] → (reach_reasons m pc xs ≡ [] → us ≡ xs) →
-      (reach_reasons m pc ys ≡ [] → vs ≡ ys) → us ++ vs ≡ xs ++ ys
+  both_same : (xs ys us vs : List Reach) → reach_violations m pc (xs ++ ys) ≡ [] →
+      (reach_violations m pc xs ≡ [] → us ≡ xs) →
+      (reach_violations m pc ys ≡ [] → vs ≡ ys) → us ++ vs ≡ xs ++ ys
   both_same xs ys us vs e f g =
-      let k = sym (reasons_append xs ys) ∙ e in
-      ap (λ i. i ++ vs) (f (none_left _ _ k)) ∙ ap (λ i. xs ++ i) (g (none_right (reach_reasons m pc xs) _ k))
+      let k = sym (violations_append xs ys) ∙ e in
+      ap (λ i. i ++ vs) (f (none_left _ _ k)) ∙ ap (λ i. xs ++ i) (g (none_right (reach_violations m pc xs) _ k))
 
   one_same : (op : OneOp) (w : Width) (a b : Option Val) (t v : Val) → AbsorbsOption a b → AbsorbsVal t v →
-      reach_reasons m pc (one_reach op w a t) ≡ [] → one_reach op w b v ≡ one_reach op w a t
+      reach_violations m pc (one_reach op w a t) ≡ [] → one_reach op w b v ≡ one_reach op w a t
   one_same Push w a b t v p q e = if_same true Write w (Some t) (Some v) q e
   one_same Call w a b t v p q e = if_same true Write Word (Some t) (Some v) q e
   one_same op w a b t v p q e = if_same true Write w a b p e
 
-  -- the accesses, where they have no reason
-  pub same_plan : (insn : Insn) (ts vs : List Val) → AbsorbsEach ts vs → reach_reasons m pc (plan_val insn pc ts) ≡ [] →
+  -- the accesses, where they have no violation
+  pub same_plan : (insn : Insn) (ts vs : List Val) → AbsorbsEach ts vs →
+      reach_violations m pc (plan_val insn pc ts) ≡ [] →
       plan_val insn pc vs ≡ plan_val insn pc ts
   unfolding plan_val
   same_plan (Two op w s d) ts vs p e =

@@ -29,16 +29,16 @@ use Rattle.flow_rule.specs.declared.Val.{Val}
 use Rattle.flow_rule.specs.declared.Val.TheVariants.{Known, Away, Public, Secret}
 use Rattle.flow_rule.specs.Values.{is_secret, set_each, val, put_val, kept_val}
 use Rattle.flow_rule.specs.declared.Reason.TheVariants.{SecretBranch, Arm as ArmInsn}
-use Rattle.flow_rule.specs.Rounds.{Point, Found, FlowStep}
+use Rattle.flow_rule.specs.Rounds.{Point, RuleViolation, FlowStep}
 use Rattle.flow_rule.specs.Does.{does_val, past_val}
-use Rattle.flow_rule.specs.Reasons.{because_if}
+use Rattle.flow_rule.specs.Violations.{violation_if}
 use Rattle.flow_rule.specs.Going.{goes, both, also}
 use Rattle.flow_rule.specs.Steps.{step_plain, step_jump, step_insn, step_of}
 use Rattle.flow_rule.proofs.Meaning.{Agrees}
 use Rattle.flow_rule.proofs.Cores.{AgreeCore, put_other_reg, mode, confined_kept}
 use Rattle.flow_rule.proofs.Plans.{none_left, none_right, none_if}
 use Rattle.arm_balance.specs.declared.Arm.{Arm}
-use Rattle.flow_rule.specs.Arms.{stepped_regs, written_reg, written_regs, blot_core, Walk, Meets, Stops, blot, walked, walk_on, walk, arm_start, arm_reasons, step_arm, step_branch, step_arms_by, step_arms}
+use Rattle.flow_rule.specs.Arms.{stepped_regs, written_reg, written_regs, clobbered_core, Walk, Meets, Stops, clobbered_by, walked, walk_on, walk, arm_start, arm_violations, step_arm, step_branch, step_arms_by, step_arms}
 use Rattle.arm_balance.specs.Met.{met}
 use Rattle.arm_balance.specs.Balance.{arm_next, met_cycles}
 use Rattle.flow_rule.proofs.Walks.{met_regs, met_words, MeetsJoin, time_to, walk_regs, walk_words, with_met, is_met, met_rest, on_time}
@@ -218,7 +218,7 @@ module _ (terms : Terms) (key : List ℕ) (m : Module) (text : List ℕ) (caller
   is_seven true b c to next e = refl
   is_seven false b c to next e = absurd cc
 
-  jump_move : (cn : ℕ) (off : ℤ) (x : Point) (c d : List ℕ) → AgreeAt m x c d c d → met m.text text x.pair.addr ≡ Some (Jump cn off) → (cn == 7) ≡ true → (step_jump terms m text (Jump cn off) cn x).reasons ≡ [] →
+  jump_move : (cn : ℕ) (off : ℤ) (x : Point) (c d : List ℕ) → AgreeAt m x c d c d → met m.text text x.pair.addr ≡ Some (Jump cn off) → (cn == 7) ≡ true → (step_jump terms m text (Jump cn off) cn x).violations ≡ [] →
       Moved x (step_jump terms m text (Jump cn off) cn x).gives c d (cycles_of (Jump cn off)) [] (met_words (Some (Jump cn off)) m x)
   unfolding does_val cycles_of asks plan
   jump_move cn off x c d at e seven none = by (cn == 7) seven none
@@ -230,12 +230,12 @@ module _ (terms : Terms) (key : List ℕ) (m : Module) (text : List ℕ) (caller
       goes_on = goes terms m x.pair.addr x.pair.returns (way_val terms key m text caller shape cn off x c d c d at e true) x.label.words
 
       other : FlowStep
-      other = also (because_if (is_secret (val x.label.core 2)) x.pair.addr SecretBranch 0) (both goes_on (goes terms m x.pair.addr x.pair.returns (past_val (Jump cn off) x.pair.addr x.label.core) x.label.words))
+      other = also (violation_if (is_secret (val x.label.core 2)) x.pair.addr SecretBranch 0) (both goes_on (goes terms m x.pair.addr x.pair.returns (past_val (Jump cn off) x.pair.addr x.label.core) x.label.words))
 
       taken : jumps cn (reg c 2) ≡ true
       taken = let k : cn ≡ 7 = grind (arith, nat_tests) in ap (λ i. jumps i (reg c 2)) k
 
-      by : (t : Bool) → t ≡ true → (cond t goes_on other).reasons ≡ [] → Moved x (cond t goes_on other).gives c d 2 [] (met_words (Some (Jump cn off)) m x)
+      by : (t : Bool) → t ≡ true → (cond t goes_on other).violations ≡ [] → Moved x (cond t goes_on other).gives c d 2 [] (met_words (Some (Jump cn off)) m x)
       by false f none = absurd cc
       by true f none =
           let c1 = past (Jump cn off) c in
@@ -255,12 +255,12 @@ module _ (terms : Terms) (key : List ℕ) (m : Module) (text : List ℕ) (caller
           }
 
   -- one instruction of an arm
-  arm_move : (x : Point) (c d : List ℕ) (join next : ℕ) → AgreeAt m x c d c d → arm_next join x.pair.addr (met m.text text x.pair.addr) ≡ Some next → (step_of terms m text x).reasons ≡ [] →
+  arm_move : (x : Point) (c d : List ℕ) (join next : ℕ) → AgreeAt m x c d c d → arm_next join x.pair.addr (met m.text text x.pair.addr) ≡ Some next → (step_of terms m text x).violations ≡ [] →
       Moved x (step_of terms m text x).gives c d (met_cycles (met m.text text x.pair.addr)) (met_regs (met m.text text x.pair.addr)) (met_words (met m.text text x.pair.addr) m x)
   unfolding step_of
   arm_move x c d join next at on none = by (met m.text text x.pair.addr) refl on none
     where
-      by : (o : Option Insn) → met m.text text x.pair.addr ≡ o → arm_next join x.pair.addr o ≡ Some next → (step_insn terms m text o x).reasons ≡ [] → Moved x (step_insn terms m text o x).gives c d (met_cycles o) (met_regs o) (met_words o m x)
+      by : (o : Option Insn) → met m.text text x.pair.addr ≡ o → arm_next join x.pair.addr o ≡ Some next → (step_insn terms m text o x).violations ≡ [] → Moved x (step_insn terms m text o x).gives c d (met_cycles o) (met_regs o) (met_words o m x)
       by None e on none = absurd cc
       by (Some (Two op w s dst)) e on none =
           let h = two_alike terms key m text caller shape op w s dst (met_regular m text x.pair.addr (Two op w s dst) e) in
@@ -273,7 +273,7 @@ module _ (terms : Terms) (key : List ℕ) (m : Module) (text : List ℕ) (caller
           not_call Call on f = absurd cc
           not_call _ on f = absurd cc
 
-          one : (op : OneOp) → op ≢ Call → met m.text text x.pair.addr ≡ Some (One op w a) → (step_plain terms m text (One op w a) x).reasons ≡ [] → Moved x (step_plain terms m text (One op w a) x).gives c d (cycles_of (One op w a)) (written_regs (One op w a)) (met_words (Some (One op w a)) m x)
+          one : (op : OneOp) → op ≢ Call → met m.text text x.pair.addr ≡ Some (One op w a) → (step_plain terms m text (One op w a) x).violations ≡ [] → Moved x (step_plain terms m text (One op w a) x).gives c d (cycles_of (One op w a)) (written_regs (One op w a)) (met_words (Some (One op w a)) m x)
           one op nc e none =
               let r = met_regular m text x.pair.addr (One op w a) e in
               let h = one_alike terms key m text caller shape op w a r.0 in
@@ -304,7 +304,7 @@ module _ (terms : Terms) (key : List ℕ) (m : Module) (text : List ℕ) (caller
 
   -- other steps that do along an arm what the plain ones do
   abbrev pub Refines : (Point → FlowStep) → Type 0
-  Refines S = (x : Point) (c d : List ℕ) (join next : ℕ) → AgreeAt m x c d c d → arm_next join x.pair.addr (met m.text text x.pair.addr) ≡ Some next → (S x).reasons ≡ [] → ((step_of terms m text x).reasons ≡ []) × ((S x).gives ≡ (step_of terms m text x).gives)
+  Refines S = (x : Point) (c d : List ℕ) (join next : ℕ) → AgreeAt m x c d c d → arm_next join x.pair.addr (met m.text text x.pair.addr) ≡ Some next → (S x).violations ≡ [] → ((step_of terms m text x).violations ≡ []) × ((S x).gives ≡ (step_of terms m text x).gives)
 
   module _ (S : Point → FlowStep) (refine : Refines S) where
     -- what a run does along each walk to the join in so many steps
@@ -315,7 +315,7 @@ module _ (terms : Terms) (key : List ℕ) (m : Module) (text : List ℕ) (caller
 
     -- the walk from a point, by where an arm goes on there
     abbrev onward : ℕ → ℕ → Option ℕ → Point → Walk
-    onward join fuel o x = walk_on o (S x).reasons (S x).gives m text x (walk S m text join fuel)
+    onward join fuel o x = walk_on o (S x).violations (S x).gives m text x (walk S m text join fuel)
 
     abbrev met_at : Point → Option Insn
     met_at x = met m.text text x.pair.addr
@@ -326,7 +326,7 @@ module _ (terms : Terms) (key : List ℕ) (m : Module) (text : List ℕ) (caller
     -- past its first instruction
     walk_more : (join fuel : ℕ) (x : Point) (c d : List ℕ) → AgreeAt m x c d c d → (next : ℕ) →
         arm_next join x.pair.addr (met_at x) ≡ Some next → Arrives join fuel →
-        (rs : List Found) (gs : List Point) → (S x).reasons ≡ rs → (S x).gives ≡ gs →
+        (rs : List RuleViolation) (gs : List Point) → (S x).violations ≡ rs → (S x).gives ≡ gs →
         MeetsJoin (walk_on (Some next) rs gs m text x (walk S m text join fuel)) →
         Walked (walk_on (Some next) rs gs m text x (walk S m text join fuel)) join c d
     walk_more join fuel x c d at next on go (r ∷ rs) gs er eg meets = absurd meets
@@ -407,7 +407,7 @@ module _ (terms : Terms) (key : List ℕ) (m : Module) (text : List ℕ) (caller
         by_next None e t go meets = absurd meets
         by_next (Some next) e t go meets =
             let here : AgreeAt m x c d c d = record { pc_a = at.pc; pc_b = at.pc; core = at.core; words = at.words; in_text = t } in
-            walk_more join fuel x c d here next e go (S x).reasons (S x).gives refl refl meets
+            walk_more join fuel x c d here next e go (S x).violations (S x).gives refl refl meets
 
         by_test : (p q : Bool) → holds m.text x.pair.addr ≡ p → Arrives join fuel →
             MeetsJoin (onward join fuel (cond (p && q) (arm_next join x.pair.addr (met_at x)) None) x) →
@@ -440,13 +440,13 @@ module _ (terms : Terms) (key : List ℕ) (m : Module) (text : List ℕ) (caller
         by false e go meets = by_test (holds m.text x.pair.addr) (nat_lt x.pair.addr join) refl go meets
 
 -- ---- what the arms write is Secret
-blot_core_long : (ns : List ℕ) (v : List Val) → length (blot_core ns v) ≡ length v
-blot_core_long [] v = refl
-blot_core_long (n ∷ ns) v = blot_core_long ns (put_val v n Secret) ∙ length-set v n (kept_val n Secret)
+clobbered_core_long : (ns : List ℕ) (v : List Val) → length (clobbered_core ns v) ≡ length v
+clobbered_core_long [] v = refl
+clobbered_core_long (n ∷ ns) v = clobbered_core_long ns (put_val v n Secret) ∙ length-set v n (kept_val n Secret)
 
-blot_long : (w : Walk) (l : Label) → length (blot w l).core ≡ length l.core
-blot_long (Meets cycles regs words) l = blot_core_long regs l.core
-blot_long (Stops addr) l = refl
+clobbered_long : (w : Walk) (l : Label) → length (clobbered_by w l).core ≡ length l.core
+clobbered_long (Meets cycles regs words) l = clobbered_core_long regs l.core
+clobbered_long (Stops addr) l = refl
 
 module _ (s : Section) where
   secret_kept : (n a b : ℕ) → (n ≡ 3 → (a ≡ 0) × (b ≡ 0)) → Agrees s (kept_val n Secret) a b
@@ -457,8 +457,8 @@ module _ (s : Section) where
       by false true e = zero3 (grind (arith, nat_tests))
       by false false e = tt
 
-  one_blot : (v : List Val) (n k a b : ℕ) → (n ≡ 3 → (a ≡ 0) × (b ≡ 0)) → (n ≢ k → Agrees s (val v n) a b) → Agrees s (val (put_val v k Secret) n) a b
-  one_blot v n k a b zero3 h = by (n == k) refl
+  one_clobbered : (v : List Val) (n k a b : ℕ) → (n ≡ 3 → (a ≡ 0) × (b ≡ 0)) → (n ≢ k → Agrees s (val v n) a b) → Agrees s (val (put_val v k Secret) n) a b
+  one_clobbered v n k a b zero3 h = by (n == k) refl
     where
       here : (k < length v) ⊎ (length v ≤ k) → n ≡ k → Agrees s (val (put_val v k Secret) n) a b
       here (inl lt) e =
@@ -470,12 +470,12 @@ module _ (s : Section) where
       by true e = here (cases_lt k (length v)) (grind (arith, nat_tests))
       by false e = let ne : n ≢ k = grind (arith, nat_tests) in subst (λ u. Agrees s u a b) (sym (get_or-set_other v k n (kept_val k Secret) Secret ne)) (h ne)
 
-  blot_core_at : (ns : List ℕ) (v : List Val) (n a b : ℕ) → (n ≡ 3 → (a ≡ 0) × (b ≡ 0)) → (NotIn n ns → Agrees s (val v n) a b) → Agrees s (val (blot_core ns v) n) a b
-  blot_core_at [] v n a b zero3 h = h tt
-  blot_core_at (k ∷ ns) v n a b zero3 h = blot_core_at ns (put_val v k Secret) n a b zero3 (λ no. one_blot v n k a b zero3 (λ ne. h (ne, no)))
+  clobbered_core_at : (ns : List ℕ) (v : List Val) (n a b : ℕ) → (n ≡ 3 → (a ≡ 0) × (b ≡ 0)) → (NotIn n ns → Agrees s (val v n) a b) → Agrees s (val (clobbered_core ns v) n) a b
+  clobbered_core_at [] v n a b zero3 h = h tt
+  clobbered_core_at (k ∷ ns) v n a b zero3 h = clobbered_core_at ns (put_val v k Secret) n a b zero3 (λ no. one_clobbered v n k a b zero3 (λ ne. h (ne, no)))
 
-  one_blot_word : (v : List Val) (n k a b : ℕ) → (n ≢ k → Agrees s (nth n v Secret) a b) → Agrees s (nth n (set v k Secret) Secret) a b
-  one_blot_word v n k a b h = by (n == k) refl
+  one_clobbered_word : (v : List Val) (n k a b : ℕ) → (n ≢ k → Agrees s (nth n v Secret) a b) → Agrees s (nth n (set v k Secret) Secret) a b
+  one_clobbered_word v n k a b h = by (n == k) refl
     where
       here : (k < length v) ⊎ (length v ≤ k) → n ≡ k → Agrees s (nth n (set v k Secret) Secret) a b
       here (inl lt) e = subst (λ u. Agrees s u a b) (sym (ap (λ i. nth i (set v k Secret) Secret) e ∙ get_or-set_same v k Secret Secret lt)) tt
@@ -485,24 +485,25 @@ module _ (s : Section) where
       by true e = here (cases_lt k (length v)) (grind (arith, nat_tests))
       by false e = let ne : n ≢ k = grind (arith, nat_tests) in subst (λ u. Agrees s u a b) (sym (get_or-set_other v k n Secret Secret ne)) (h ne)
 
-  blot_at : (ns : List ℕ) (v : List Val) (n a b : ℕ) → (NotIn n ns → Agrees s (nth n v Secret) a b) → Agrees s (nth n (set_each ns Secret v) Secret) a b
-  blot_at [] v n a b h = h tt
-  blot_at (k ∷ ns) v n a b h = blot_at ns (set v k Secret) n a b (λ no. one_blot_word v n k a b (λ ne. h (ne, no)))
+  clobbered_at : (ns : List ℕ) (v : List Val) (n a b : ℕ) → (NotIn n ns → Agrees s (nth n v Secret) a b) → Agrees s (nth n (set_each ns Secret v) Secret) a b
+  clobbered_at [] v n a b h = h tt
+  clobbered_at (k ∷ ns) v n a b h =
+      clobbered_at ns (set v k Secret) n a b (λ no. one_clobbered_word v n k a b (λ ne. h (ne, no)))
 
-  walk_blots : (w : Walk) (l : Label) (n a b : ℕ) → (n ≡ 3 → (a ≡ 0) × (b ≡ 0)) →
-      (NotIn n (walk_regs w) → Agrees s (val l.core n) a b) → Agrees s (val (blot w l).core n) a b
-  walk_blots (Meets cycles regs words) l n a b zero3 h = blot_core_at regs l.core n a b zero3 h
-  walk_blots (Stops addr) l n a b zero3 h = h tt
+  walk_clobbers : (w : Walk) (l : Label) (n a b : ℕ) → (n ≡ 3 → (a ≡ 0) × (b ≡ 0)) →
+      (NotIn n (walk_regs w) → Agrees s (val l.core n) a b) → Agrees s (val (clobbered_by w l).core n) a b
+  walk_clobbers (Meets cycles regs words) l n a b zero3 h = clobbered_core_at regs l.core n a b zero3 h
+  walk_clobbers (Stops addr) l n a b zero3 h = h tt
 
-  walk_blots_word : (w : Walk) (l : Label) (n a b : ℕ) → (NotIn n (walk_words w) → Agrees s (nth n l.words Secret) a b) →
-      Agrees s (nth n (blot w l).words Secret) a b
-  walk_blots_word (Meets cycles regs words) l n a b h = blot_at words l.words n a b h
-  walk_blots_word (Stops addr) l n a b h = h tt
+  walk_clobbers_word : (w : Walk) (l : Label) (n a b : ℕ) → (NotIn n (walk_words w) → Agrees s (nth n l.words Secret) a b) →
+      Agrees s (nth n (clobbered_by w l).words Secret) a b
+  walk_clobbers_word (Meets cycles regs words) l n a b h = clobbered_at words l.words n a b h
+  walk_clobbers_word (Stops addr) l n a b h = h tt
 
 -- ---- both arms
 module _ (terms : Terms) (key : List ℕ) (m : Module) (text : List ℕ) (caller : ℕ) (shape : Shape m) (S : Point → FlowStep) (refine : Refines terms key m text caller shape S) (At : Standing) (down : (x : Point) (ca da cb db : List ℕ) → At x ca da cb db → AgreeAt m x ca da cb db)
     (up : (x : Point) (ca da cb db : List ℕ) → At x ca da cb db → (cn : ℕ) (off : ℤ) → met m.text text x.pair.addr ≡ Some (Jump cn off) → (y : Point) (pa qa pb qb : List ℕ) → kept 0 (add16 x.pair.addr 2) ≤ y.pair.addr → AgreeAt m y pa qa pb qb → At y pa qa pb qb)
-    (base : (x : Point) (ca da cb db : List ℕ) → At x ca da cb db → (S x).reasons ≡ [] → Crossing terms m (job_of key m text caller) At (S x).gives (at_rest ca da) (at_rest cb db)) where
+    (base : (x : Point) (ca da cb db : List ℕ) → At x ca da cb db → (S x).violations ≡ [] → Crossing terms m (job_of key m text caller) At (S x).gives (at_rest ca da) (at_rest cb db)) where
   abbrev jj : Job
   jj = job_of key m text caller
 
@@ -599,16 +600,16 @@ module _ (terms : Terms) (key : List ℕ) (m : Module) (text : List ℕ) (caller
     pick_word false k free0 free1 = free0
 
     -- Secret where the arm writes that the jump does not take, and where either does
-    abbrev blot_first : Label
-    blot_first = blot (walk_of false) x.label
+    abbrev clobbered_first : Label
+    clobbered_first = clobbered_by (walk_of false) x.label
 
-    abbrev blot_both : Label
-    blot_both = blot (walk_of true) blot_first
+    abbrev clobbered_both : Label
+    clobbered_both = clobbered_by (walk_of true) clobbered_first
 
     abbrev joined_point : Point
     joined_point = record {
       pair = record { addr = arm.join; returns = x.pair.returns };
-      label = record { core = set blot_both.core 0 (Known arm.join); words = blot_both.words };
+      label = record { core = set clobbered_both.core 0 (Known arm.join); words = clobbered_both.words };
     }
 
     joined_at : (ta tb : Bool) (p : Crossed ta ca da) (q : Crossed tb cb db) → holds m.text arm.join ≡ true → AgreeAt m joined_point p.core p.data_left q.core q.data_left
@@ -618,7 +619,7 @@ module _ (terms : Terms) (key : List ℕ) (m : Module) (text : List ℕ) (caller
           pc_b = q.here;
           core = record {
             short =
-                let same = length-set blot_both.core 0 (Known arm.join) ∙ blot_long (walk_of true) blot_first ∙ blot_long (walk_of false) x.label in
+                let same = length-set clobbered_both.core 0 (Known arm.join) ∙ clobbered_long (walk_of true) clobbered_first ∙ clobbered_long (walk_of false) x.label in
                 subst (λ i. i ≤ 16) (sym same) at.core.short;
             long_a = p.fine.1.long_a;
             long_b = q.fine.1.long_a;
@@ -633,16 +634,17 @@ module _ (terms : Terms) (key : List ℕ) (m : Module) (text : List ℕ) (caller
           words = record {
             is_a = p.is_data;
             is_b = q.is_data;
-            at = λ i. walk_blots_word m.text (walk_of true) blot_first i (word p.data_left i) (word q.data_left i)
-                (λ free1. walk_blots_word m.text (walk_of false) x.label i (word p.data_left i) (word q.data_left i)
+            at = λ i. walk_clobbers_word m.text (walk_of true) clobbered_first i
+                (word p.data_left i) (word q.data_left i)
+                (λ free1. walk_clobbers_word m.text (walk_of false) x.label i (word p.data_left i) (word q.data_left i)
                 (λ free0. subst (λ a. Agrees m.text (nth i x.label.words Secret) a (word q.data_left i)) (sym (p.words i (pick_word ta i free0 free1)))
                 (subst (λ b. Agrees m.text (nth i x.label.words Secret) (word da i) b) (sym (q.words i (pick_word tb i free0 free1))) (at.words.at i))));
           };
           in_text = inn;
         }
       where
-        blotted : List Val
-        blotted = blot_both.core
+        clobbered : List Val
+        clobbered = clobbered_both.core
 
         is_flag : (v : Val) → is_secret v ≡ true → (a b : ℕ) → Agrees m.text v a b
         is_flag Secret e a b = tt
@@ -657,24 +659,24 @@ module _ (terms : Terms) (key : List ℕ) (m : Module) (text : List ℕ) (caller
         zeros : (n : ℕ) → n ≡ 3 → (reg p.core n ≡ 0) × (reg q.core n ≡ 0)
         zeros n e = (ap (λ i. reg p.core i) e ∙ p.fine.1.zero_a, ap (λ i. reg q.core i) e ∙ q.fine.1.zero_a)
 
-        at_zero : (0 < length blotted) ⊎ (length blotted ≤ 0) → Agrees m.text (val (set blotted 0 (Known arm.join)) 0) (reg p.core 0) (reg q.core 0)
-        at_zero (inl lt) = subst (λ u. Agrees m.text u (reg p.core 0) (reg q.core 0)) (sym (get_or-set_same blotted 0 (Known arm.join) Secret lt)) (p.here, q.here)
-        at_zero (inr ge) = subst (λ u. Agrees m.text u (reg p.core 0) (reg q.core 0)) (sym (ap (λ l. val l 0) (set_past blotted 0 (Known arm.join) ge) ∙ get_or_past blotted 0 Secret ge)) tt
+        at_zero : (0 < length clobbered) ⊎ (length clobbered ≤ 0) → Agrees m.text (val (set clobbered 0 (Known arm.join)) 0) (reg p.core 0) (reg q.core 0)
+        at_zero (inl lt) = subst (λ u. Agrees m.text u (reg p.core 0) (reg q.core 0)) (sym (get_or-set_same clobbered 0 (Known arm.join) Secret lt)) (p.here, q.here)
+        at_zero (inr ge) = subst (λ u. Agrees m.text u (reg p.core 0) (reg q.core 0)) (sym (ap (λ l. val l 0) (set_past clobbered 0 (Known arm.join) ge) ∙ get_or_past clobbered 0 Secret ge)) tt
 
-        by : (n : ℕ) (t : Bool) → (n == 0) ≡ t → Agrees m.text (val (set blotted 0 (Known arm.join)) n) (reg p.core n) (reg q.core n)
-        by n true e = let k : n ≡ 0 = grind (arith, nat_tests) in subst (λ i. Agrees m.text (val (set blotted 0 (Known arm.join)) i) (reg p.core i) (reg q.core i)) (sym k) (at_zero (cases_lt 0 (length blotted)))
+        by : (n : ℕ) (t : Bool) → (n == 0) ≡ t → Agrees m.text (val (set clobbered 0 (Known arm.join)) n) (reg p.core n) (reg q.core n)
+        by n true e = let k : n ≡ 0 = grind (arith, nat_tests) in subst (λ i. Agrees m.text (val (set clobbered 0 (Known arm.join)) i) (reg p.core i) (reg q.core i)) (sym k) (at_zero (cases_lt 0 (length clobbered)))
         by n false e =
             let n0 : n ≢ 0 = grind (arith, nat_tests) in
-            subst (λ u. Agrees m.text u (reg p.core n) (reg q.core n)) (sym (get_or-set_other blotted 0 n (Known arm.join) Secret n0))
-            (walk_blots m.text (walk_of true) blot_first n (reg p.core n) (reg q.core n) (zeros n)
-            (λ free1. walk_blots m.text (walk_of false) x.label n (reg p.core n) (reg q.core n) (zeros n) (λ free0. others n n0 (n == 2) refl free0 free1)))
+            subst (λ u. Agrees m.text u (reg p.core n) (reg q.core n)) (sym (get_or-set_other clobbered 0 n (Known arm.join) Secret n0))
+            (walk_clobbers m.text (walk_of true) clobbered_first n (reg p.core n) (reg q.core n) (zeros n)
+            (λ free1. walk_clobbers m.text (walk_of false) x.label n (reg p.core n) (reg q.core n) (zeros n) (λ free0. others n n0 (n == 2) refl free0 free1)))
 
-    arm_crossing : At x ca da cb db → (step_arm S m text (Jump cn off) target arm x).reasons ≡ [] → Crossing terms m jj At (step_arm S m text (Jump cn off) target arm x).gives (at_rest ca da) (at_rest cb db)
+    arm_crossing : At x ca da cb db → (step_arm S m text (Jump cn off) target arm x).violations ≡ [] → Crossing terms m jj At (step_arm S m text (Jump cn off) target arm x).gives (at_rest ca da) (at_rest cb db)
     unfolding does_val
     arm_crossing standing none =
-        let r0 = because_if (not (holds m.text arm.join)) pc0 ArmInsn arm.join in
-        let rs0 = arm_reasons pc0 arm.cycles 0 (walk_of false) in
-        let rs1 = arm_reasons pc0 arm.cycles 1 (walk_of true) in
+        let r0 = violation_if (not (holds m.text arm.join)) pc0 ArmInsn arm.join in
+        let rs0 = arm_violations pc0 arm.cycles 0 (walk_of false) in
+        let rs1 = arm_violations pc0 arm.cycles 1 (walk_of true) in
         let both : (r0 ++ rs0) ≡ [] = none_left (r0 ++ rs0) rs1 none in
         let inn : holds m.text arm.join ≡ true =
         not_not (holds m.text arm.join) (none_if (not (holds m.text arm.join)) pc0 ArmInsn arm.join (none_left r0 rs0 both)) in
@@ -707,27 +709,27 @@ module _ (terms : Terms) (key : List ℕ) (m : Module) (text : List ℕ) (caller
         pick_time false p q = p
 
   -- ---- every step, with certificates
-  pub arms_crossing : (arms : List Arm) (x : Point) (ca da cb db : List ℕ) → At x ca da cb db → (step_arms S arms m text x).reasons ≡ [] →
+  pub arms_crossing : (arms : List Arm) (x : Point) (ca da cb db : List ℕ) → At x ca da cb db → (step_arms S arms m text x).violations ≡ [] →
       Crossing terms m jj At (step_arms S arms m text x).gives (at_rest ca da) (at_rest cb db)
   unfolding step_arms
   arms_crossing arms x ca da cb db at none = by (met m.text text x.pair.addr) refl none
     where
-      plain : (S x).reasons ≡ [] → Crossing terms m jj At (S x).gives (at_rest ca da) (at_rest cb db)
+      plain : (S x).violations ≡ [] → Crossing terms m jj At (S x).gives (at_rest ca da) (at_rest cb db)
       plain none = base x ca da cb db at none
 
       found : (cn : ℕ) (off : ℤ) → met m.text text x.pair.addr ≡ Some (Jump cn off) → is_secret (val x.label.core 2) ≡ true → (o : Option Arm) →
-          (step_branch o S m text (Jump cn off) x (add16 (add16 x.pair.addr 2) (distance off))).reasons ≡ [] →
+          (step_branch o S m text (Jump cn off) x (add16 (add16 x.pair.addr 2) (distance off))).violations ≡ [] →
           Crossing terms m jj At (step_branch o S m text (Jump cn off) x (add16 (add16 x.pair.addr 2) (distance off))).gives (at_rest ca da) (at_rest cb db)
       found cn off e s None none = plain none
       found cn off e s (Some arm) none = arm_crossing cn off arm x ca da cb db (down x ca da cb db at) e s at none
 
       jump_by : (cn : ℕ) (off : ℤ) → met m.text text x.pair.addr ≡ Some (Jump cn off) → (a b : Bool) → is_secret (val x.label.core 2) ≡ b →
-          (cond (a && b) (step_branch (find (λ arm. arm.branch == x.pair.addr) arms) S m text (Jump cn off) x (add16 (add16 x.pair.addr 2) (distance off))) (S x)).reasons ≡ [] →
+          (cond (a && b) (step_branch (find (λ arm. arm.branch == x.pair.addr) arms) S m text (Jump cn off) x (add16 (add16 x.pair.addr 2) (distance off))) (S x)).violations ≡ [] →
           Crossing terms m jj At (cond (a && b) (step_branch (find (λ arm. arm.branch == x.pair.addr) arms) S m text (Jump cn off) x (add16 (add16 x.pair.addr 2) (distance off))) (S x)).gives (at_rest ca da) (at_rest cb db)
       jump_by cn off e true true s none = found cn off e s (find (λ arm. arm.branch == x.pair.addr) arms) none
       jump_by cn off e true false s none = plain none
       jump_by cn off e false b s none = plain none
 
-      by : (o : Option Insn) → met m.text text x.pair.addr ≡ o → (step_arms_by o S arms m text x).reasons ≡ [] → Crossing terms m jj At (step_arms_by o S arms m text x).gives (at_rest ca da) (at_rest cb db)
+      by : (o : Option Insn) → met m.text text x.pair.addr ≡ o → (step_arms_by o S arms m text x).violations ≡ [] → Crossing terms m jj At (step_arms_by o S arms m text x).gives (at_rest ca da) (at_rest cb db)
       by (Some (Jump cn off)) e none = jump_by cn off e (not (cn == 7)) (is_secret (val x.label.core 2)) refl none
       by _ e none = plain none

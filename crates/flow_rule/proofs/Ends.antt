@@ -8,8 +8,8 @@ use Rattle.flow_rule.specs.declared.Val.{Val}
 use Rattle.flow_rule.specs.declared.Val.TheVariants.{Known, Away, Public, Secret}
 use Rattle.flow_rule.specs.declared.Verdict.{Verdict}
 use Rattle.flow_rule.specs.declared.Verdict.TheVariants.{Yes, No}
-use Rattle.flow_rule.specs.Reasons.{number_of, NotAfter, BeforeAll, AmongThem}
-use Rattle.flow_rule.specs.Rounds.{Point, Found, FlowStep, same_pair, join_label, join_in, join_all, given_points, round, rounds, IsLabelling, all_reasons}
+use Rattle.flow_rule.specs.Violations.{number_of, NotAfter, BeforeAll, AmongThem}
+use Rattle.flow_rule.specs.Rounds.{Point, RuleViolation, FlowStep, same_pair, join_label, join_in, join_all, given_points, round, rounds, IsLabelling, all_violations}
 use Rattle.flow_rule.specs.Values.{join, join_each}
 use Rattle.flow_rule.specs.Verdict.{Decided, most_pairs}
 
@@ -148,12 +148,12 @@ module _ (step : Point → FlowStep) (start : Point) (most : ℕ) where
   ended : Ended
   ended = outer (suc most) 0 (omega arith)
 
--- ---- the least reason
+-- ---- the least violation
 
-same : (x : Found) → NotAfter x x
+same : (x : RuleViolation) → NotAfter x x
 same x = inr (refl, inr (refl, omega arith))
 
-then : (x y z : Found) → NotAfter x y → NotAfter y z → NotAfter x z
+then : (x y z : RuleViolation) → NotAfter x y → NotAfter y z → NotAfter x z
 then x y z (inl h) (inl k) = inl (omega (arith, h, k))
 then x y z (inl h) (inr (e, r)) = inl (omega (arith, h, e))
 then x y z (inr (e, r)) (inl h) = inl (omega (arith, e, h))
@@ -162,7 +162,7 @@ then x y z (inr (e, inl h)) (inr (f, inr (g, k))) = inr (e ∙ f, inl (omega (ar
 then x y z (inr (e, inr (g, k))) (inr (f, inl h)) = inr (e ∙ f, inl (omega (arith, h, g)))
 then x y z (inr (e, inr (g, k))) (inr (f, inr (h, l))) = inr (e ∙ f, inr (g ∙ h, omega (arith, k, l)))
 
-total : (x y : Found) → NotAfter x y ⊎ NotAfter y x
+total : (x y : RuleViolation) → NotAfter x y ⊎ NotAfter y x
 total x y = by (cases_lt x.addr y.addr) (cases_lt y.addr x.addr) (cases_lt (number_of x.why) (number_of y.why)) (cases_lt (number_of y.why) (number_of x.why)) (cases_lt x.value y.value)
   where
     by : (x.addr < y.addr) ⊎ (y.addr ≤ x.addr) → (y.addr < x.addr) ⊎ (x.addr ≤ y.addr) → (number_of x.why < number_of y.why) ⊎ (number_of y.why ≤ number_of x.why)
@@ -174,14 +174,14 @@ total x y = by (cases_lt x.addr y.addr) (cases_lt y.addr x.addr) (cases_lt (numb
     by (inr g) (inr h) (inr j) (inr k) (inl l) = inl (inr (omega (arith, g, h), inr (omega (arith, j, k), omega (arith, l))))
     by (inr g) (inr h) (inr j) (inr k) (inr l) = inr (inr (omega (arith, g, h), inr (omega (arith, j, k), l)))
 
-earlier : (x r : Found) (xs : List Found) → NotAfter x r → BeforeAll r xs → BeforeAll x xs
+earlier : (x r : RuleViolation) (xs : List RuleViolation) → NotAfter x r → BeforeAll r xs → BeforeAll x xs
 earlier x r [] h b = tt
 earlier x r (y ∷ ys) h b = (then x r y h b.0, earlier x r ys h b.1)
 
-abbrev Least : List Found → Type 0
-Least xs = (r : Found) × AmongThem r xs × BeforeAll r xs
+abbrev Least : List RuleViolation → Type 0
+Least xs = (r : RuleViolation) × AmongThem r xs × BeforeAll r xs
 
-least : (x : Found) (xs : List Found) → Least (x ∷ xs)
+least : (x : RuleViolation) (xs : List RuleViolation) → Least (x ∷ xs)
 least x [] = (x, inl refl, (same x, tt))
 least x (y ∷ ys) = by (least y ys)
   where
@@ -195,15 +195,15 @@ least x (y ∷ ys) = by (least y ys)
 -- ---- verdicts
 
 module _ (step : Point → FlowStep) (start : Point) (begin : ℕ) where
-  by_reasons : (xs : List Point) → IsLabelling step start xs → length xs ≤ most_pairs → (rs : List Found) → all_reasons step xs ≡ rs → (v : Verdict) × Decided step start begin v
-  by_reasons xs l few [] e = (Yes, (xs, l, few, e))
-  by_reasons xs l few (r ∷ rs) e =
+  by_violations : (xs : List Point) → IsLabelling step start xs → length xs ≤ most_pairs → (rs : List RuleViolation) → all_violations step xs ≡ rs → (v : Verdict) × Decided step start begin v
+  by_violations xs l few [] e = (Yes, (xs, l, few, e))
+  by_violations xs l few (r ∷ rs) e =
       let first = least r rs in
       (No first.0.addr first.0.why first.0.value, inl (xs, l, few, subst (AmongThem first.0) (sym e) first.1, subst (BeforeAll first.0) (sym e) first.2))
 
   by_end : Ended step start most_pairs → (v : Verdict) × Decided step start begin v
   by_end (inl (n, h)) = (No begin TooMany 0, inr (n, h, refl))
-  by_end (inr (n, e, h)) = by_reasons (rounds step start n) (record { rounds_to = n; is = refl; stays = e }) h (all_reasons step (rounds step start n)) refl
+  by_end (inr (n, e, h)) = by_violations (rounds step start n) (record { rounds_to = n; is = refl; stays = e }) h (all_violations step (rounds step start n)) refl
 
   pub some_verdict : (v : Verdict) × Decided step start begin v
   some_verdict = by_end (ended step start most_pairs)

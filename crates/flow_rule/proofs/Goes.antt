@@ -10,7 +10,7 @@ use Rattle.flow_rule.specs.Going.{exit_step, goes, fails}
 -- to a known place, inside the text or not
 abbrev pub goes_in : Terms → Bool → Module → ℕ → ℕ → List ℕ → List Val → List Val → FlowStep
 goes_in terms inside m to pc returns core words =
-    if inside then record { reasons = []; gives = record { pair = record { addr = to; returns = returns }; label = record { core = core; words = words } } ∷ [] }
+    if inside then record { violations = []; gives = record { pair = record { addr = to; returns = returns }; label = record { core = core; words = words } } ∷ [] }
     else exit_step terms m pc core words
 
 -- to where PC then points, or nowhere

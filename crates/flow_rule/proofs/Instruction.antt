@@ -28,7 +28,7 @@ use Rattle.flow_rule.specs.Values.{is_secret, set_each, val, put_val}
 use Rattle.flow_rule.specs.declared.Reason.TheVariants.{SecretBranch}
 use Rattle.flow_rule.specs.Rounds.{Point, FlowStep}
 use Rattle.flow_rule.specs.Does.{plan_val, does_val, past_val, read_val, writes_val, read_reaches, write_reaches}
-use Rattle.flow_rule.specs.Reasons.{because_if, reach_reasons, exit_reasons, word_reasons}
+use Rattle.flow_rule.specs.Violations.{violation_if, reach_violations, exit_violations, word_violations}
 use Rattle.flow_rule.specs.Going.{exit_step, goes_by, goes, both, also}
 use Rattle.flow_rule.specs.Returns.{return_turn}
 use Rattle.flow_rule.specs.Steps.{step_plain, step_jump, step_unit, step_insn, step_of}
@@ -96,15 +96,15 @@ landing_of terms m gives ca da cb db (Here y one at) = In y (subst (λ g. Among 
 landing_of terms m gives ca da cb db (Gone nothing same out_a out_b p q agree) = Out same out_a out_b p q agree
 
 module _ (terms : Terms) (m : Module) where
-  gone : (pc : ℕ) (v words : List Val) (ca da cb db : List ℕ) → AgreeCore m.text v ca cb → AgreeData m words da db → (exit_step terms m pc v words).reasons ≡ [] → holds m.text (reg ca 0) ≡ false → holds m.text (reg cb 0) ≡ false →
+  gone : (pc : ℕ) (v words : List Val) (ca da cb db : List ℕ) → AgreeCore m.text v ca cb → AgreeData m words da db → (exit_step terms m pc v words).violations ≡ [] → holds m.text (reg ca 0) ≡ false → holds m.text (reg cb 0) ≡ false →
       Single terms m [] ca da cb db
   gone pc v words ca da cb db h d e out_a out_b =
-      let ws = word_reasons m pc words terms.public in
-      let rs = exit_reasons 16 0 pc (set_each terms.answers Public v) in
+      let ws = word_violations m pc words terms.public in
+      let rs = exit_violations 16 0 pc (set_each terms.answers Public v) in
       Gone refl (same_but m.text terms.answers pc v ca cb h (none_right ws rs e)) out_a out_b d.is_a d.is_b (agrees_on m terms.public pc words da db d (none_left ws rs e))
 
   lands_in : (t : Bool) (to pc : ℕ) (returns : List ℕ) (v words : List Val) (ca da cb db : List ℕ) → AgreeCore m.text v ca cb → AgreeData m words da db → reg ca 0 ≡ to → reg cb 0 ≡ to → holds m.text to ≡ t →
-      (goes_in terms t m to pc returns v words).reasons ≡ [] → Single terms m (goes_in terms t m to pc returns v words).gives ca da cb db
+      (goes_in terms t m to pc returns v words).violations ≡ [] → Single terms m (goes_in terms t m to pc returns v words).gives ca da cb db
   lands_in true to pc returns v words ca da cb db h d ea eb t e =
       Here (record { pair = record { addr = to; returns = returns }; label = record { core = v; words = words } }) refl
       (record { pc_a = ea; pc_b = eb; core = h; words = d; in_text = t })
@@ -112,18 +112,18 @@ module _ (terms : Terms) (m : Module) where
       gone pc v words ca da cb db h d e (ap (λ a. holds m.text a) ea ∙ t) (ap (λ a. holds m.text a) eb ∙ t)
 
   lands_by : (p : Val) (pc : ℕ) (returns : List ℕ) (v words : List Val) (ca da cb db : List ℕ) → AgreeCore m.text v ca cb → AgreeData m words da db → Agrees m.text p (reg ca 0) (reg cb 0) →
-      (goes_by terms p m pc returns v words).reasons ≡ [] → Single terms m (goes_by terms p m pc returns v words).gives ca da cb db
+      (goes_by terms p m pc returns v words).violations ≡ [] → Single terms m (goes_by terms p m pc returns v words).gives ca da cb db
   lands_by (Known to) pc returns v words ca da cb db h d g e = lands_in (holds m.text to) to pc returns v words ca da cb db h d g.0 g.1 refl e
   lands_by Away pc returns v words ca da cb db h d g e = gone pc v words ca da cb db h d e g.2 (ap (λ a. holds m.text a) (sym g.0) ∙ g.2)
   lands_by Public pc returns v words ca da cb db h d g e = absurd cc
   lands_by Secret pc returns v words ca da cb db h d g e = absurd cc
 
   pub lands : (pc : ℕ) (returns : List ℕ) (v words : List Val) (ca da cb db : List ℕ) → AgreeCore m.text v ca cb → AgreeData m words da db →
-      (goes terms m pc returns v words).reasons ≡ [] → Single terms m (goes terms m pc returns v words).gives ca da cb db
+      (goes terms m pc returns v words).violations ≡ [] → Single terms m (goes terms m pc returns v words).gives ca da cb db
   lands pc returns v words ca da cb db h d e = lands_by (val v 0) pc returns v words ca da cb db h d (h.at 0) e
 
   lands_unless : (b : Bool) (pc : ℕ) (returns : List ℕ) (v words : List Val) (ca da cb db : List ℕ) → AgreeCore m.text v ca cb → AgreeData m words da db →
-      (goes_unless terms b m pc returns v words).reasons ≡ [] → Single terms m (goes_unless terms b m pc returns v words).gives ca da cb db
+      (goes_unless terms b m pc returns v words).violations ≡ [] → Single terms m (goes_unless terms b m pc returns v words).gives ca da cb db
   lands_unless true pc returns v words ca da cb db h d e = absurd cc
   lands_unless false pc returns v words ca da cb db h d e = lands pc returns v words ca da cb db h d e
 
@@ -255,7 +255,7 @@ module _ (terms : Terms) (key : List ℕ) (m : Module) (text : List ℕ) (caller
     pub so_b : lone_does j insn (at_rest cb db) ≡ after (confined true cb (does_freely insn cb values_b).core) left_b rest false
     pub landing : Single terms m gives (confined true ca (does_freely insn ca values_a).core) left_a (confined true cb (does_freely insn cb values_b).core) left_b
 
-  pub plain_parts : (insn : Insn) → Does_alike insn → (x : Point) (ca da cb db : List ℕ) → AgreeAt m x ca da cb db → met m.text text x.pair.addr ≡ Some insn → (step_plain terms m text insn x).reasons ≡ [] →
+  pub plain_parts : (insn : Insn) → Does_alike insn → (x : Point) (ca da cb db : List ℕ) → AgreeAt m x ca da cb db → met m.text text x.pair.addr ≡ Some insn → (step_plain terms m text insn x).violations ≡ [] →
       Parts insn (step_plain terms m text insn x).gives ca da cb db
   plain_parts insn h x ca da cb db at e none =
       let pc = x.pair.addr in
@@ -265,9 +265,9 @@ module _ (terms : Terms) (key : List ℕ) (m : Module) (text : List ℕ) (caller
       let dv = does_val insn pc v vs in
       let t = return_turn insn pc x.pair.returns vs in
       let g = goes_unless terms t.stops m pc t.returns dv.core (writes_val m x.label.words (write_reaches rs) dv.stored) in
-      let n1 = none_left (reach_reasons m pc rs ++ t.reasons) g.reasons none in
-      let n2 = none_right (reach_reasons m pc rs ++ t.reasons) g.reasons none in
-      let n3 = none_left (reach_reasons m pc rs) t.reasons n1 in
+      let n1 = none_left (reach_violations m pc rs ++ t.violations) g.violations none in
+      let n2 = none_right (reach_violations m pc rs ++ t.violations) g.violations none in
+      let n3 = none_left (reach_violations m pc rs) t.violations n1 in
       let f = fixed m pc rs (plan insn ca) (plan insn cb) (h.reached pc v ca cb at.pc_a at.pc_b at.core) n3 in
       let xs = plan insn ca in
       let ins = inside m pc j refl rs xs f.0 in
@@ -294,7 +294,7 @@ module _ (terms : Terms) (key : List ℕ) (m : Module) (text : List ℕ) (caller
       }
 
   -- the words of the data that it does not write
-  pub plain_kept : (insn : Insn) (h : Does_alike insn) (x : Point) (ca da cb db : List ℕ) (at : AgreeAt m x ca da cb db) (e : met m.text text x.pair.addr ≡ Some insn) (none : (step_plain terms m text insn x).reasons ≡ []) →
+  pub plain_kept : (insn : Insn) (h : Does_alike insn) (x : Point) (ca da cb db : List ℕ) (at : AgreeAt m x ca da cb db) (e : met m.text text x.pair.addr ≡ Some insn) (none : (step_plain terms m text insn x).violations ≡ []) →
       (i : ℕ) → NotIn i (written_words m (write_reaches (plan_val insn x.pair.addr x.label.core))) → word (plain_parts insn h x ca da cb db at e none).left_a i ≡ word da i
   unfolding plain_parts
   plain_kept insn h x ca da cb db at e none i k =
@@ -305,11 +305,11 @@ module _ (terms : Terms) (key : List ℕ) (m : Module) (text : List ℕ) (caller
       let dv = does_val insn pc v vs in
       let t = return_turn insn pc x.pair.returns vs in
       let g = goes_unless terms t.stops m pc t.returns dv.core (writes_val m x.label.words (write_reaches rs) dv.stored) in
-      let n3 = none_left (reach_reasons m pc rs) t.reasons (none_left (reach_reasons m pc rs ++ t.reasons) g.reasons none) in
+      let n3 = none_left (reach_violations m pc rs) t.violations (none_left (reach_violations m pc rs ++ t.violations) g.violations none) in
       let f = fixed m pc rs (plan insn ca) (plan insn cb) (h.reached pc v ca cb at.pc_a at.pc_b at.core) n3 in
       writes_keep m shape da rs (plan insn ca) (does_freely insn ca (map (lone_read j da) (reads_of (plan insn ca)))).stored i f.0 k
 
-  plain_crossing : (insn : Insn) → Does_alike insn → (x : Point) (ca da cb db : List ℕ) → AgreeAt m x ca da cb db → met m.text text x.pair.addr ≡ Some insn → (step_plain terms m text insn x).reasons ≡ [] →
+  plain_crossing : (insn : Insn) → Does_alike insn → (x : Point) (ca da cb db : List ℕ) → AgreeAt m x ca da cb db → met m.text text x.pair.addr ≡ Some insn → (step_plain terms m text insn x).violations ≡ [] →
       Crossing terms m j (AgreeAt m) (step_plain terms m text insn x).gives (at_rest ca da) (at_rest cb db)
   plain_crossing insn h x ca da cb db at e none =
       let p = plain_parts insn h x ca da cb db at e none in
@@ -401,31 +401,32 @@ module _ (terms : Terms) (key : List ℕ) (m : Module) (text : List ℕ) (caller
     abbrev pub way_goes : Bool → FlowStep
     way_goes t = goes terms m pc x.pair.returns (way_val t) x.label.words
 
-    pub way_single : (t : Bool) → (way_goes t).reasons ≡ [] → Single terms m (way_goes t).gives (way t ca) da (way t cb) db
+    pub way_single : (t : Bool) → (way_goes t).violations ≡ [] → Single terms m (way_goes t).gives (way t ca) da (way t cb) db
     way_single t e = lands terms m pc x.pair.returns (way_val t) x.label.words (way t ca) da (way t cb) db (way_agrees t) at.words e
 
-    way_lands : (t : Bool) → (way_goes t).reasons ≡ [] → Landing terms m (way_goes t).gives (way t ca) da (way t cb) db
+    way_lands : (t : Bool) → (way_goes t).violations ≡ [] →
+        Landing terms m (way_goes t).gives (way t ca) da (way t cb) db
     way_lands t e = landing_of terms m _ _ _ _ _ (way_single t e)
 
-    jump_crossing : (step_jump terms m text insn cond_no x).reasons ≡ [] → Crossing terms m j (AgreeAt m) (step_jump terms m text insn cond_no x).gives (at_rest ca da) (at_rest cb db)
+    jump_crossing : (step_jump terms m text insn cond_no x).violations ≡ [] → Crossing terms m j (AgreeAt m) (step_jump terms m text insn cond_no x).gives (at_rest ca da) (at_rest cb db)
     unfolding does_val
     jump_crossing none = by (cond_no == 7) refl none
       where
         abbrev_either : FlowStep
-        abbrev_either = also (because_if (is_secret (val x.label.core 2)) pc SecretBranch 0) (both (way_goes true) (way_goes false))
+        abbrev_either = also (violation_if (is_secret (val x.label.core 2)) pc SecretBranch 0) (both (way_goes true) (way_goes false))
 
-        by : (c : Bool) → (cond_no == 7) ≡ c → (cond c (way_goes true) (also (because_if (is_secret (val x.label.core 2)) pc SecretBranch 0) (both (way_goes true) (way_goes false)))).reasons ≡ [] →
-            Crossing terms m j (AgreeAt m) (cond c (way_goes true) (also (because_if (is_secret (val x.label.core 2)) pc SecretBranch 0) (both (way_goes true) (way_goes false)))).gives (at_rest ca da) (at_rest cb db)
+        by : (c : Bool) → (cond_no == 7) ≡ c → (cond c (way_goes true) (also (violation_if (is_secret (val x.label.core 2)) pc SecretBranch 0) (both (way_goes true) (way_goes false)))).violations ≡ [] →
+            Crossing terms m j (AgreeAt m) (cond c (way_goes true) (also (violation_if (is_secret (val x.label.core 2)) pc SecretBranch 0) (both (way_goes true) (way_goes false)))).gives (at_rest ca da) (at_rest cb db)
         by true e none =
             let k : cond_no ≡ 7 = grind (arith, nat_tests) in
             way_crossing true (way_goes true).gives (ap (λ i. jumps i (reg ca 2)) k) (ap (λ i. jumps i (reg cb 2)) k) (way_lands true none)
         by false e none =
-            let n1 = none_left (because_if (is_secret (val x.label.core 2)) pc SecretBranch 0) ((way_goes true).reasons ++ (way_goes false).reasons) none in
-            let n2 = none_right (because_if (is_secret (val x.label.core 2)) pc SecretBranch 0) ((way_goes true).reasons ++ (way_goes false).reasons) none in
+            let n1 = none_left (violation_if (is_secret (val x.label.core 2)) pc SecretBranch 0) ((way_goes true).violations ++ (way_goes false).violations) none in
+            let n2 = none_right (violation_if (is_secret (val x.label.core 2)) pc SecretBranch 0) ((way_goes true).violations ++ (way_goes false).violations) none in
             let sr : reg ca 2 ≡ reg cb 2 = same m.text (val x.label.core 2) (reg ca 2) (reg cb 2) (at.core.at 2) (none_if (is_secret (val x.label.core 2)) pc SecretBranch 0 n1) in
-            turn (jumps cond_no (reg ca 2)) refl (ap (λ i. jumps cond_no i) (sym sr)) (none_left (way_goes true).reasons (way_goes false).reasons n2) (none_right (way_goes true).reasons (way_goes false).reasons n2)
+            turn (jumps cond_no (reg ca 2)) refl (ap (λ i. jumps cond_no i) (sym sr)) (none_left (way_goes true).violations (way_goes false).violations n2) (none_right (way_goes true).violations (way_goes false).violations n2)
           where
-            turn : (t : Bool) → jumps cond_no (reg ca 2) ≡ t → jumps cond_no (reg cb 2) ≡ jumps cond_no (reg ca 2) → (way_goes true).reasons ≡ [] → (way_goes false).reasons ≡ [] →
+            turn : (t : Bool) → jumps cond_no (reg ca 2) ≡ t → jumps cond_no (reg cb 2) ≡ jumps cond_no (reg ca 2) → (way_goes true).violations ≡ [] → (way_goes false).violations ≡ [] →
                 Crossing terms m j (AgreeAt m) ((way_goes true).gives ++ (way_goes false).gives) (at_rest ca da) (at_rest cb db)
             turn true ea eb p q = way_crossing true _ ea (eb ∙ ea) (land_left terms m (way_goes true).gives (way_goes false).gives _ _ _ _ (way_lands true p))
             turn false ea eb p q = way_crossing false _ ea (eb ∙ ea) (land_right terms m (way_goes true).gives (way_goes false).gives _ _ _ _ (way_lands false q))
@@ -455,7 +456,7 @@ module _ (terms : Terms) (key : List ℕ) (m : Module) (text : List ℕ) (caller
 
     tell_crossing : (value : ℕ) → unit_plan (lone_who j) u ca ≡ [] → unit_plan (lone_who j) u cb ≡ [] →
         unit_does u ca da ≡ after (put (past (UnitOp Unprotect) ca) 15 value) da 5 false → unit_does u cb db ≡ after (put (past (UnitOp Unprotect) cb) 15 value) db 5 false →
-        (goes terms m x.pair.addr x.pair.returns (put_val (past_val (UnitOp n) x.pair.addr x.label.core) 15 Public) x.label.words).reasons ≡ [] →
+        (goes terms m x.pair.addr x.pair.returns (put_val (past_val (UnitOp n) x.pair.addr x.label.core) 15 Public) x.label.words).violations ≡ [] →
         Crossing terms m j (AgreeAt m) (goes terms m x.pair.addr x.pair.returns (put_val (past_val (UnitOp n) x.pair.addr x.label.core) 15 Public) x.label.words).gives (at_rest ca da) (at_rest cb db)
     tell_crossing value pa pb ea eb none =
         let h1 = past_agrees m.text even (UnitOp n) x.pair.addr x.label.core ca cb at.pc_a at.pc_b at.core in
@@ -466,7 +467,7 @@ module _ (terms : Terms) (key : List ℕ) (m : Module) (text : List ℕ) (caller
 
     shut_crossing : (r : ℕ) → unit_plan (lone_who j) u ca ≡ [] → unit_plan (lone_who j) u cb ≡ [] →
         unit_does u ca da ≡ after (past (UnitOp Unprotect) ca) da r true → unit_does u cb db ≡ after (past (UnitOp Unprotect) cb) db r true →
-        exit_reasons 16 0 x.pair.addr (set_each terms.answers Public x.label.core) ≡ [] → Crossing terms m j (AgreeAt m) [] (at_rest ca da) (at_rest cb db)
+        exit_violations 16 0 x.pair.addr (set_each terms.answers Public x.label.core) ≡ [] → Crossing terms m j (AgreeAt m) [] (at_rest ca da) (at_rest cb db)
     unfolding doing
     shut_crossing r pa pb ea eb none =
         record {
@@ -487,7 +488,7 @@ module _ (terms : Terms) (key : List ℕ) (m : Module) (text : List ℕ) (caller
         past_same (suc k) lt off =
             put_other_reg ca 0 _ (suc k) (λ e. absurd (omega arith)) ∙ same_reg m.text terms.answers x.pair.addr x.label.core ca cb at.core none (suc k) lt off ∙ sym (put_other_reg cb 0 _ (suc k) (λ e. absurd (omega arith)))
 
-  unit_crossing : (n : UnitName) (u : UnitName) → n ≡ u → (x : Point) (ca da cb db : List ℕ) → AgreeAt m x ca da cb db → met m.text text x.pair.addr ≡ Some (UnitOp n) → (step_unit terms m (UnitOp n) u x).reasons ≡ [] →
+  unit_crossing : (n : UnitName) (u : UnitName) → n ≡ u → (x : Point) (ca da cb db : List ℕ) → AgreeAt m x ca da cb db → met m.text text x.pair.addr ≡ Some (UnitOp n) → (step_unit terms m (UnitOp n) u x).violations ≡ [] →
       Crossing terms m j (AgreeAt m) (step_unit terms m (UnitOp n) u x).gives (at_rest ca da) (at_rest cb db)
   unfolding unit_does unit_plan unit_effect
   unit_crossing n Unprotect e x ca da cb db at met_it none = shut_crossing n Unprotect e x ca da cb db at met_it (ap (λ u. is_alone (UnitOp u)) e) (6 + size_of m.ram / 2 - 1) refl refl refl refl none
@@ -496,11 +497,11 @@ module _ (terms : Terms) (key : List ℕ) (m : Module) (text : List ℕ) (caller
   unit_crossing n _ e x ca da cb db at met_it none = absurd cc
 
   -- ---- any instruction
-  pub step_crossing : ((pc : ℕ) (insn : Insn) → met m.text text pc ≡ Some insn → RegularInsn insn) → (x : Point) (ca da cb db : List ℕ) → AgreeAt m x ca da cb db → (step_of terms m text x).reasons ≡ [] → Crossing terms m j (AgreeAt m) (step_of terms m text x).gives (at_rest ca da) (at_rest cb db)
+  pub step_crossing : ((pc : ℕ) (insn : Insn) → met m.text text pc ≡ Some insn → RegularInsn insn) → (x : Point) (ca da cb db : List ℕ) → AgreeAt m x ca da cb db → (step_of terms m text x).violations ≡ [] → Crossing terms m j (AgreeAt m) (step_of terms m text x).gives (at_rest ca da) (at_rest cb db)
   unfolding step_of
   step_crossing regular x ca da cb db at none = by (met m.text text x.pair.addr) refl none
     where
-      by : (o : Option Insn) → met m.text text x.pair.addr ≡ o → (step_insn terms m text o x).reasons ≡ [] → Crossing terms m j (AgreeAt m) (step_insn terms m text o x).gives (at_rest ca da) (at_rest cb db)
+      by : (o : Option Insn) → met m.text text x.pair.addr ≡ o → (step_insn terms m text o x).violations ≡ [] → Crossing terms m j (AgreeAt m) (step_insn terms m text o x).gives (at_rest ca da) (at_rest cb db)
       by None e none = absurd cc
       by (Some (Two op w s d)) e none = plain_crossing (Two op w s d) (two_alike op w s d (regular x.pair.addr (Two op w s d) e)) x ca da cb db at e none
       by (Some (One op w a)) e none = plain_crossing (One op w a) (one_alike op w a (regular x.pair.addr (One op w a) e).0) x ca da cb db at e none

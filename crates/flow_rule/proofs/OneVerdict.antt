@@ -4,8 +4,9 @@ use Rattle.flow_rule.specs.declared.Reason.{Reason}
 use Rattle.flow_rule.specs.declared.Reason.TheVariants as reason
 use Rattle.flow_rule.specs.declared.Verdict.{Verdict}
 use Rattle.flow_rule.specs.declared.Verdict.TheVariants.{Yes, No}
-use Rattle.flow_rule.specs.Rounds.{Point, Found, FlowStep, given_points, round, rounds, IsLabelling, all_reasons}
-use Rattle.flow_rule.specs.Reasons.{number_of, NotAfter, BeforeAll, AmongThem}
+use Rattle.flow_rule.specs.Rounds.{Point, RuleViolation, FlowStep, given_points, round, rounds, IsLabelling}
+use Rattle.flow_rule.specs.Rounds.{all_violations}
+use Rattle.flow_rule.specs.Violations.{number_of, NotAfter, BeforeAll, AmongThem}
 use Rattle.flow_rule.specs.Verdict.{Decided}
 use Rattle.flow_rule.proofs.Ends.{all_longer}
 
@@ -65,7 +66,7 @@ module _ (step : Point → FlowStep) where
         let bound = not_longer n l.rounds_to (start ∷ []) (subst Stays (sym (staying xs l)) l.stays) in
         omega (arith, bound, ap length (as_more start n), ap length (staying xs l))
 
--- The first reason
+-- The first violation
 
 abbrev reason_of : ℕ → Reason
 reason_of n =
@@ -85,13 +86,14 @@ numbered : (r : Reason) → reason_of (number_of r) ≡ r
 numbered reason.SecretBranch = refl
 numbered _ = refl
 
-abbrev no_of : Found → Verdict
+abbrev no_of : RuleViolation → Verdict
 no_of r = No r.addr r.why r.value
 
-same_no : (a b : Found) → a.addr ≡ b.addr → number_of a.why ≡ number_of b.why → a.value ≡ b.value → no_of a ≡ no_of b
+same_no : (a b : RuleViolation) → a.addr ≡ b.addr → number_of a.why ≡ number_of b.why → a.value ≡ b.value →
+    no_of a ≡ no_of b
 same_no a b e f h = let why : a.why ≡ b.why = sym (numbered a.why) ∙ ap reason_of f ∙ numbered b.why in cc
 
-one_first : (a b : Found) → NotAfter a b → NotAfter b a → no_of a ≡ no_of b
+one_first : (a b : RuleViolation) → NotAfter a b → NotAfter b a → no_of a ≡ no_of b
 one_first a b (inl h) (inl k) = absurd (omega (arith, h, k))
 one_first a b (inl h) (inr k) = absurd (omega (arith, h, k.0))
 one_first a b (inr h) (inl k) = absurd (omega (arith, h.0, k))
@@ -100,15 +102,15 @@ one_first a b (inr (e, inl h)) (inr (f, inr k)) = absurd (omega (arith, h, k.0))
 one_first a b (inr (e, inr h)) (inr (f, inl k)) = absurd (omega (arith, h.0, k))
 one_first a b (inr (e, inr h)) (inr (f, inr k)) = same_no a b e h.0 (omega (arith, h.1, k.1))
 
-before : (r x : Found) (xs : List Found) → BeforeAll r xs → AmongThem x xs → NotAfter r x
+before : (r x : RuleViolation) (xs : List RuleViolation) → BeforeAll r xs → AmongThem x xs → NotAfter r x
 before r x [] b a = absurd a
 before r x (y ∷ ys) b (inl e) = subst (λ z. NotAfter r z) (sym e) b.0
 before r x (y ∷ ys) b (inr a) = before r x ys b.1 a
 
-one_reason : (a b : Found) (xs : List Found) → AmongThem a xs → BeforeAll a xs → AmongThem b xs → BeforeAll b xs → no_of a ≡ no_of b
+one_reason : (a b : RuleViolation) (xs : List RuleViolation) → AmongThem a xs → BeforeAll a xs → AmongThem b xs → BeforeAll b xs → no_of a ≡ no_of b
 one_reason a b xs a_in a_first b_in b_first = one_first a b (before a b xs a_first b_in) (before b a xs b_first a_in)
 
-none_among : (r : Found) (xs : List Found) → xs ≡ [] → AmongThem r xs → ⊥
+none_among : (r : RuleViolation) (xs : List RuleViolation) → xs ≡ [] → AmongThem r xs → ⊥
 none_among r [] e a = a
 none_among r (x ∷ xs) e a = cc
 
@@ -118,18 +120,18 @@ module _ (step : Point → FlowStep) (start : Point) (begin : ℕ) where
   pub one_verdict : (a b : Verdict) → Decided step start begin a → Decided step start begin b → a ≡ b
   one_verdict Yes Yes d e = refl
   one_verdict Yes (No addr why value) d (inl e) =
-      let same : all_reasons step e.0 ≡ all_reasons step d.0 = ap (all_reasons step) (one_labelling step start e.0 d.0 e.1 d.1) in
-      absurd (none_among _ (all_reasons step e.0) (same ∙ d.3) e.3)
+      let same : all_violations step e.0 ≡ all_violations step d.0 = ap (all_violations step) (one_labelling step start e.0 d.0 e.1 d.1) in
+      absurd (none_among _ (all_violations step e.0) (same ∙ d.3) e.3)
   one_verdict Yes (No addr why value) d (inr e) = absurd (omega (arith, d.2, e.1, within step start d.0 e.0 d.1))
   one_verdict (No addr why value) Yes (inl d) e =
-      let same : all_reasons step d.0 ≡ all_reasons step e.0 = ap (all_reasons step) (one_labelling step start d.0 e.0 d.1 e.1) in
-      absurd (none_among _ (all_reasons step d.0) (same ∙ e.3) d.3)
+      let same : all_violations step d.0 ≡ all_violations step e.0 = ap (all_violations step) (one_labelling step start d.0 e.0 d.1 e.1) in
+      absurd (none_among _ (all_violations step d.0) (same ∙ e.3) d.3)
   one_verdict (No addr why value) Yes (inr d) e = absurd (omega (arith, e.2, d.1, within step start e.0 d.0 e.1))
   one_verdict (No addr why value) (No addr2 why2 value2) (inl d) (inl e) =
-      let a : Found = record { addr = addr; why = why; value = value } in
-      let b : Found = record { addr = addr2; why = why2; value = value2 } in
+      let a : RuleViolation = record { addr = addr; why = why; value = value } in
+      let b : RuleViolation = record { addr = addr2; why = why2; value = value2 } in
       let same : e.0 ≡ d.0 = one_labelling step start e.0 d.0 e.1 d.1 in
-      (one_reason a b (all_reasons step d.0) d.3 d.4 (subst (λ xs. AmongThem b (all_reasons step xs)) same e.3) (subst (λ xs. BeforeAll b (all_reasons step xs)) same e.4))
+      (one_reason a b (all_violations step d.0) d.3 d.4 (subst (λ xs. AmongThem b (all_violations step xs)) same e.3) (subst (λ xs. BeforeAll b (all_violations step xs)) same e.4))
   one_verdict (No addr why value) (No addr2 why2 value2) (inl d) (inr e) = absurd (omega (arith, d.2, e.1, within step start d.0 e.0 d.1))
   one_verdict (No addr why value) (No addr2 why2 value2) (inr d) (inl e) = absurd (omega (arith, e.2, d.1, within step start e.0 d.0 e.1))
   one_verdict (No addr why value) (No addr2 why2 value2) (inr d) (inr e) = ap no_of (d.2 ∙ sym e.2)

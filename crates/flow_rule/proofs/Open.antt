@@ -28,10 +28,10 @@ use Rattle.flow_rule.specs.declared.Reason.TheVariants.{UnknownTarget}
 use Rattle.flow_rule.specs.Rounds.{Point}
 use Rattle.flow_rule.specs.declared.Reach.{Reach}
 use Rattle.flow_rule.specs.Does.{writes_val, past_val, lowered_val}
-use Rattle.flow_rule.specs.Reasons.{because_if, reach_reasons}
+use Rattle.flow_rule.specs.Violations.{violation_if, reach_violations}
 use Rattle.flow_rule.specs.Returns.{calls, ReturnTurn}
 use Rattle.flow_rule.specs.Steps.{step_of, step_insn, step_plain}
-use Rattle.flow_rule.specs.Stub.{text_word, entries_of, word_number, is_shut, is_open, shut_reasons, shut_if, to_entries, step_entries, step_stub, call_entry}
+use Rattle.flow_rule.specs.Stub.{text_word, entries_of, word_number, is_shut, is_open, shut_violations, shut_if, to_entries, step_entries, step_stub, call_entry}
 use Rattle.arm_balance.specs.Met.{text_byte, met}
 use Rattle.entry_stubs.specs.Stub.{stub_front}
 use Rattle.flow_rule.proofs.Cores.{AgreeCore, put_agrees, put_other_reg, confined_agrees, ends_so}
@@ -78,10 +78,10 @@ shut_entry k e f = let g : is_shut 17 ≡ false = subst (λ i. is_shut i ≡ fal
 shut_low : (k : ℕ) → is_shut k ≡ false → nat_le k 18 ≡ true → ⊥
 shut_low k e f = let g : (true || (k == 36) || (k == 37)) ≡ false = subst (λ b. (b || (k == 36) || (k == 37)) ≡ false) f e in absurd cc
 
-not_shut : (m : Module) (pc : ℕ) (gs : List Point) → shut_reasons m pc gs ≡ [] → (y : Point) → Among y gs → is_shut (word_number m y.pair.addr) ≡ false
+not_shut : (m : Module) (pc : ℕ) (gs : List Point) → shut_violations m pc gs ≡ [] → (y : Point) → Among y gs → is_shut (word_number m y.pair.addr) ≡ false
 not_shut m pc [] e y h = absurd h
-not_shut m pc (x ∷ gs) e y (inl f) = ap (λ y. is_shut (word_number m y.pair.addr)) f ∙ none_if (is_shut (word_number m x.pair.addr)) pc _ 0 (none_left (because_if (is_shut (word_number m x.pair.addr)) pc UnknownTarget 0) (shut_reasons m pc gs) e)
-not_shut m pc (x ∷ gs) e y (inr h) = not_shut m pc gs (none_right (because_if (is_shut (word_number m x.pair.addr)) pc UnknownTarget 0) (shut_reasons m pc gs) e) y h
+not_shut m pc (x ∷ gs) e y (inl f) = ap (λ y. is_shut (word_number m y.pair.addr)) f ∙ none_if (is_shut (word_number m x.pair.addr)) pc _ 0 (none_left (violation_if (is_shut (word_number m x.pair.addr)) pc UnknownTarget 0) (shut_violations m pc gs) e)
+not_shut m pc (x ∷ gs) e y (inr h) = not_shut m pc gs (none_right (violation_if (is_shut (word_number m x.pair.addr)) pc UnknownTarget 0) (shut_violations m pc gs) e) y h
 
 abbrev head_addr : List Access → ℕ
 head_addr [] = 0
@@ -126,16 +126,16 @@ module _ (terms : Terms) (key : List ℕ) (m : Module) (text : List ℕ) (caller
   word_at_place k = omega arith
 
   -- ---- the closed words are not met from outside
-  outside_crossing : (x : Point) (ca da cb db : List ℕ) → AtStub m n x ca da cb db → (shut_if false m x.pair.addr (step_of terms m text x)).reasons ≡ [] →
+  outside_crossing : (x : Point) (ca da cb db : List ℕ) → AtStub m n x ca da cb db → (shut_if false m x.pair.addr (step_of terms m text x)).violations ≡ [] →
       Crossing terms m j (AtStub m n) (step_of terms m text x).gives (at_rest ca da) (at_rest cb db)
   outside_crossing x ca da cb db at none =
       let s = step_of terms m text x in
-      let n1 = none_right s.reasons (shut_reasons m x.pair.addr s.gives) none in
-      let n2 = none_left s.reasons (shut_reasons m x.pair.addr s.gives) none in
+      let n1 = none_right s.violations (shut_violations m x.pair.addr s.gives) none in
+      let n2 = none_left s.violations (shut_violations m x.pair.addr s.gives) none in
       let k = step_crossing terms key m text caller shape regular x ca da cb db at.agree n2 in
       record { cycles = k.cycles; some = k.some; to_a = k.to_a; to_b = k.to_b; pass_a = k.pass_a; pass_b = k.pass_b; ending = by k.to_a k.to_b n1 k.ending }
     where
-      by : (la lb : Lone) → shut_reasons m x.pair.addr (step_of terms m text x).gives ≡ [] → Ending terms m j (AgreeAt m) (step_of terms m text x).gives la lb → Ending terms m j (AtStub m n) (step_of terms m text x).gives la lb
+      by : (la lb : Lone) → shut_violations m x.pair.addr (step_of terms m text x).gives ≡ [] → Ending terms m j (AgreeAt m) (step_of terms m text x).gives la lb → Ending terms m j (AtStub m n) (step_of terms m text x).gives la lb
       by la lb e (Stays y among ca da cb db at ea eb) =
           let k = not_shut m x.pair.addr (step_of terms m text x).gives e y among in
           Stays y among ca da cb db (record { agree = at; open_ok = λ f. absurd (shut_open (word_number m y.pair.addr) k f); entry_ok = λ f. absurd (shut_entry (word_number m y.pair.addr) k f); low_ok = λ f. absurd (shut_low (word_number m y.pair.addr) k f) }) ea eb
@@ -257,7 +257,7 @@ module _ (terms : Terms) (key : List ℕ) (m : Module) (text : List ℕ) (caller
       next_word = ap (λ i. word_at (text_byte m.text text) i) (let e : t0 + 34 + 2 ≡ t0 + 36 = omega arith in e) ∙ stub_word 18 (t0 + 76) (omega arith) refl
 
   -- each of the four
-  module _ (x : Point) (ca da cb db : List ℕ) (at : AgreeAt m x ca da cb db) (few : reg ca 6 < n) (equal : reg ca 6 ≡ reg cb 6) (none : (step_of terms m text x).reasons ≡ []) where
+  module _ (x : Point) (ca da cb db : List ℕ) (at : AgreeAt m x ca da cb db) (few : reg ca 6 < n) (equal : reg ca 6 ≡ reg cb 6) (none : (step_of terms m text x).violations ≡ []) where
     abbrev Crosses : Type 0
     Crosses = Crossing terms m j (AtStub m n) (step_of terms m text x).gives (at_rest ca da) (at_rest cb db)
 
@@ -267,7 +267,7 @@ module _ (terms : Terms) (key : List ℕ) (m : Module) (text : List ℕ) (caller
     by_parts insn k k' here lt lt' met_it plain alike pc next =
         let met_x : met m.text text x.pair.addr ≡ Some insn = ap (λ a. met m.text text a) here ∙ met_it in
         let e : step_of terms m text x ≡ step_plain terms m text insn x = step_is x insn met_x ∙ plain in
-        let q = plain_parts terms key m text caller shape insn alike x ca da cb db at met_x (ap (λ s. s.reasons) (sym e) ∙ none) in
+        let q = plain_parts terms key m text caller shape insn alike x ca da cb db at met_x (ap (λ s. s.violations) (sym e) ∙ none) in
         subst (λ s. Crossing terms m j (AtStub m n) s.gives (at_rest ca da) (at_rest cb db)) (sym e)
         (open_crossing insn (step_plain terms m text insn x).gives ca da cb db k' q (pc ca q.values_a (at.pc_a ∙ here) at.core.long_a few) (in_place k' lt') (next q.values_a q.values_b))
 
@@ -384,7 +384,7 @@ module _ (terms : Terms) (key : List ℕ) (m : Module) (text : List ℕ) (caller
   far_entry : (a : ℕ) → t0 + 76 + 2 * n ≤ a → word_number m a ≡ 17 → ⊥
   far_entry a low e = omega arith
 
-  module _ (x : Point) (ca da cb db : List ℕ) (at : AgreeAt m x ca da cb db) (here : x.pair.addr ≡ t0 + 34) (i : ℕ) (lt : i < n) (six_a : reg ca 6 ≡ 2 * i) (six_b : reg cb 6 ≡ 2 * i) (none : (step_entries m text x).reasons ≡ []) where
+  module _ (x : Point) (ca da cb db : List ℕ) (at : AgreeAt m x ca da cb db) (here : x.pair.addr ≡ t0 + 34) (i : ℕ) (lt : i < n) (six_a : reg ca 6 ≡ 2 * i) (six_b : reg cb 6 ≡ 2 * i) (none : (step_entries m text x).violations ≡ []) where
     abbrev core_val : List Val
     core_val = lowered_val (past_val (call_entry m) x.pair.addr x.label.core)
 
@@ -406,7 +406,7 @@ module _ (terms : Terms) (key : List ℕ) (m : Module) (text : List ℕ) (caller
     pushed =
         fixed m x.pair.addr (push ∷ []) (push_access (pushes_at ca) ∷ []) (push_access (pushes_at cb) ∷ [])
         (record { kind_a = refl; kind_b = refl; width_a = refl; width_b = refl; addr = lowered_both.at 1 }, tt)
-        (none_left (reach_reasons m x.pair.addr (push ∷ [])) turned.reasons none)
+        (none_left (reach_violations m x.pair.addr (push ∷ [])) turned.violations none)
 
     same_push : pushes_at cb ≡ pushes_at ca
     same_push = ap head_addr pushed.1
@@ -521,21 +521,21 @@ module _ (terms : Terms) (key : List ℕ) (m : Module) (text : List ℕ) (caller
             small l = let h = shape.text_high in omega arith
 
   -- ---- every step
-  pub stub_crossing : (x : Point) (ca da cb db : List ℕ) → AtStub m n x ca da cb db → (step_stub terms m text x).reasons ≡ [] → Crossing terms m j (AtStub m n) (step_stub terms m text x).gives (at_rest ca da) (at_rest cb db)
+  pub stub_crossing : (x : Point) (ca da cb db : List ℕ) → AtStub m n x ca da cb db → (step_stub terms m text x).violations ≡ [] → Crossing terms m j (AtStub m n) (step_stub terms m text x).gives (at_rest ca da) (at_rest cb db)
   unfolding step_stub
   stub_crossing x ca da cb db at none = by (word_number m x.pair.addr == 17) (is_open (word_number m x.pair.addr)) refl refl none
     where
       place : (k : ℕ) → word_number m x.pair.addr ≡ k → x.pair.addr ≡ t0 + 2 * k
       place k e = place_of_word x.pair.addr k e (ap (λ i. i % 2) (sym at.agree.pc_a) ∙ at.agree.core.even_pc) at.agree.in_text
 
-      opened : IsOpen (word_number m x.pair.addr) → reg ca 6 < n → reg ca 6 ≡ reg cb 6 → (step_of terms m text x).reasons ≡ [] → Crossing terms m j (AtStub m n) (step_of terms m text x).gives (at_rest ca da) (at_rest cb db)
+      opened : IsOpen (word_number m x.pair.addr) → reg ca 6 < n → reg ca 6 ≡ reg cb 6 → (step_of terms m text x).violations ≡ [] → Crossing terms m j (AtStub m n) (step_of terms m text x).gives (at_rest ca da) (at_rest cb db)
       opened (inl e) few equal none = at_10 x ca da cb db at.agree few equal none (place 10 e)
       opened (inr (inl e)) few equal none = at_12 x ca da cb db at.agree few equal none (place 12 e)
       opened (inr (inr (inl e))) few equal none = at_14 x ca da cb db at.agree few equal none (place 14 e)
       opened (inr (inr (inr e))) few equal none = at_16 x ca da cb db at.agree few equal none (place 16 e)
 
       by : (a b : Bool) → (word_number m x.pair.addr == 17) ≡ a → is_open (word_number m x.pair.addr) ≡ b →
-          (cond a (step_entries m text x) (shut_if b m x.pair.addr (step_of terms m text x))).reasons ≡ [] → Crossing terms m j (AtStub m n) (cond a (step_entries m text x) (shut_if b m x.pair.addr (step_of terms m text x))).gives (at_rest ca da) (at_rest cb db)
+          (cond a (step_entries m text x) (shut_if b m x.pair.addr (step_of terms m text x))).violations ≡ [] → Crossing terms m j (AtStub m n) (cond a (step_entries m text x) (shut_if b m x.pair.addr (step_of terms m text x))).gives (at_rest ca da) (at_rest cb db)
       by true b e f none =
           let k : word_number m x.pair.addr ≡ 17 = is_17 (word_number m x.pair.addr) e in
           let h = at.entry_ok k in

@@ -27,16 +27,16 @@ use Rattle.flow_rule.specs.declared.Label.{Label}
 use Rattle.flow_rule.specs.declared.Reach.{Reach}
 use Rattle.flow_rule.specs.declared.Reason.TheVariants.{Arm as ArmInsn, SecretBranch}
 use Rattle.flow_rule.specs.Values.{is_secret, val}
-use Rattle.flow_rule.specs.Rounds.{Point, Found, FlowStep}
+use Rattle.flow_rule.specs.Rounds.{Point, RuleViolation, FlowStep}
 use Rattle.flow_rule.specs.Does.{plan_val, read_val, writes_val, read_reaches, write_reaches, does_val, past_val}
-use Rattle.flow_rule.specs.Reasons.{because_if, reach_reasons}
+use Rattle.flow_rule.specs.Violations.{violation_if, reach_violations}
 use Rattle.flow_rule.specs.Going.{goes_by, goes, both, also}
 use Rattle.flow_rule.specs.Returns.{ReturnTurn, return_turn, without_newest, last_is}
 use Rattle.flow_rule.specs.Steps.{step_plain, step_jump, step_insn, step_of}
 use Rattle.flow_rule.proofs.Goes.{goes_in, goes_unless}
-use Rattle.flow_rule.specs.Stub.{word_number, is_open, shut_reasons, shut_if, step_entries, step_stub, has_stub}
+use Rattle.flow_rule.specs.Stub.{word_number, is_open, shut_violations, shut_if, step_entries, step_stub, has_stub}
 use Rattle.flow_rule.specs.Verdict.{flow_step}
-use Rattle.flow_rule.specs.Arms.{Walk, Meets, written_words, walked, walk_on, walk, arm_start, first_walk, second_walk, arm_reasons, step_arm}
+use Rattle.flow_rule.specs.Arms.{Walk, Meets, written_words, walked, walk_on, walk, arm_start, first_walk, second_walk, arm_violations, step_arm}
 use Rattle.flow_rule.specs.Absorbs.{Absorbs}
 use Rattle.flow_rule.proofs.Plans.{none_left, none_right}
 use Rattle.flow_rule.proofs.Stub.{stub_facts}
@@ -63,7 +63,7 @@ record Leads (s q : FlowStep) : Type 0 where
   z : Point
   to_y : s.gives ≡ y ∷ []
   to_z : q.gives ≡ z ∷ []
-  none : q.reasons ≡ []
+  none : q.violations ≡ []
   near : Near y z
 
 -- the step goes to some place
@@ -104,7 +104,7 @@ module _ (terms : Terms) (m : Module) (pc : ℕ) where
 
 -- ---- an instruction of an arm leaves the return addresses as they are
 abbrev quiet : List ℕ → ReturnTurn
-quiet returns = record { reasons = []; returns = returns; stops = false }
+quiet returns = record { violations = []; returns = returns; stops = false }
 
 if_first : (a b : Bool) (to next : ℕ) → cond (a && b) (Some to) None ≡ Some next → a ≡ true
 if_first true b to next e = refl
@@ -120,7 +120,7 @@ two_quiet join pc next Mov Word (Increment n) (Reg d) r vs on =
     by (n == 1) (d == 0) (if_first (not (d == 0)) _ _ next on)
   where
     returned : ReturnTurn
-    returned = record { reasons = []; returns = without_newest r; stops = not (last_is (nth 0 vs Secret) r) }
+    returned = record { violations = []; returns = without_newest r; stops = not (last_is (nth 0 vs Secret) r) }
 
     by : (a b : Bool) → not b ≡ true → cond (a && b) returned (quiet r) ≡ quiet r
     by true true e = absurd cc
@@ -133,7 +133,7 @@ one_quiet : (join pc next : ℕ) (op : OneOp) (w : Width) (a : Operand) (r : Lis
 one_quiet join pc next Call w a r vs on = absurd cc
 one_quiet join pc next op w a r vs on = refl
 
-no_more : (xs ys : List Found) → xs ≡ [] → ys ≡ [] → (xs ++ []) ++ ys ≡ []
+no_more : (xs ys : List RuleViolation) → xs ≡ [] → ys ≡ [] → (xs ++ []) ++ ys ≡ []
 no_more xs ys p q = ap (λ i. (i ++ []) ++ ys) p ∙ q
 
 -- ---- one instruction of an arm
@@ -146,7 +146,7 @@ module _ (terms : Terms) (m : Module) (text : List ℕ) where
   abbrev plain : Insn → ℕ → Label → List Reach → ReturnTurn → FlowStep
   plain insn pc l xs t =
       let d = does_val insn pc l.core (given l xs) in
-      also (reach_reasons m pc xs ++ t.reasons)
+      also (reach_violations m pc xs ++ t.violations)
       (goes_unless terms t.stops m pc t.returns d.core (writes_val m l.words (write_reaches xs) d.stored))
 
   is_plain : (insn : Insn) (pc : ℕ) (r : List ℕ) (l : Label) (xs : List Reach) → plan_val insn pc l.core ≡ xs →
@@ -157,7 +157,7 @@ module _ (terms : Terms) (m : Module) (text : List ℕ) where
       ∙ ap (λ xs. plain insn pc l xs (quiet r)) e
 
   plain_leads : (insn : Insn) (pc : ℕ) (r q : List ℕ) (top low : Label) (xs : List Reach) → Over top low →
-      reach_reasons m pc xs ≡ [] → Some_gives (plain insn pc top xs (quiet r)) →
+      reach_violations m pc xs ≡ [] → Some_gives (plain insn pc top xs (quiet r)) →
       Leads (plain insn pc top xs (quiet r)) (plain insn pc low xs (quiet q))
   plain_leads insn pc r q top low xs o e g =
       let k = does_keeps insn pc top.core low.core (given top xs) (given low xs) o.core
@@ -174,11 +174,11 @@ module _ (terms : Terms) (m : Module) (text : List ℕ) where
 
   plain_goes : (insn : Insn) (pc : ℕ) (r q : List ℕ) (top low : Label) →
       ((r : List ℕ) (vs : List Val) → return_turn insn pc r vs ≡ quiet r) → Over top low →
-      (step_plain terms m text insn (point pc r top)).reasons ≡ [] → Some_gives (step_plain terms m text insn (point pc r top)) →
+      (step_plain terms m text insn (point pc r top)).violations ≡ [] → Some_gives (step_plain terms m text insn (point pc r top)) →
       Goes (Some insn) pc top low (step_plain terms m text insn (point pc r top)) (step_plain terms m text insn (point pc q low))
   plain_goes insn pc r q top low turn o none g =
       let xs = plan_val insn pc top.core in
-      let free : reach_reasons m pc xs ≡ [] = none_left _ _ (none_left _ _ none) in
+      let free : reach_violations m pc xs ≡ [] = none_left _ _ (none_left _ _ none) in
       let same = same_plan m pc insn top.core low.core o.core free in
       let a = is_plain insn pc r top xs refl (turn r) in
       let b = is_plain insn pc q low xs same (turn q) in
@@ -201,7 +201,7 @@ module _ (terms : Terms) (m : Module) (text : List ℕ) where
       taken r l = goes terms m pc r (does_val (Jump cn off) pc l.core []).core l.words
 
       other : List ℕ → Label → FlowStep
-      other r l = also (because_if (is_secret (val l.core 2)) pc SecretBranch 0)
+      other r l = also (violation_if (is_secret (val l.core 2)) pc SecretBranch 0)
           (both (taken r l) (goes terms m pc r (past_val (Jump cn off) pc l.core) l.words))
 
       by : (c : Bool) → c ≡ true → Some_gives (cond c (taken r top) (other r top)) →
@@ -211,7 +211,7 @@ module _ (terms : Terms) (m : Module) (text : List ℕ) where
           goes_keeps terms m pc r q _ _ _ _ k.even_pc k.core_kept o.words g
 
   insn_goes : (o : Option Insn) (join next pc : ℕ) (r q : List ℕ) (top low : Label) → arm_next join pc o ≡ Some next →
-      Over top low → (step_insn terms m text o (point pc r top)).reasons ≡ [] →
+      Over top low → (step_insn terms m text o (point pc r top)).violations ≡ [] →
       Some_gives (step_insn terms m text o (point pc r top)) →
       Goes o pc top low (step_insn terms m text o (point pc r top)) (step_insn terms m text o (point pc q low))
   insn_goes None join next pc r q top low on p none g = absurd cc
@@ -227,7 +227,7 @@ module _ (terms : Terms) (m : Module) (text : List ℕ) where
   -- ---- the steps of a text: each goes on alike from an address of an arm
   abbrev Alike : (Point → FlowStep) → Type 0
   Alike S = (join next pc : ℕ) (r q : List ℕ) (top low : Label) → pc % 2 ≡ 0 → holds m.text pc ≡ true →
-      arm_next join pc (met m.text text pc) ≡ Some next → Over top low → (S (point pc r top)).reasons ≡ [] →
+      arm_next join pc (met m.text text pc) ≡ Some next → Over top low → (S (point pc r top)).violations ≡ [] →
       Some_gives (S (point pc r top)) →
       Goes (met m.text text pc) pc top low (S (point pc r top)) (S (point pc q low))
 
@@ -272,7 +272,7 @@ module _ (terms : Terms) (m : Module) (text : List ℕ) where
       from_low = step_of terms m text (point pc q low)
 
       by : (a b : Bool) → (word_number m pc == 17) ≡ a →
-          (cond a (step_entries m text (point pc r top)) (shut_if b m pc from_top)).reasons ≡ [] →
+          (cond a (step_entries m text (point pc r top)) (shut_if b m pc from_top)).violations ≡ [] →
           Some_gives (cond a (step_entries m text (point pc r top)) (shut_if b m pc from_top)) →
           Goes (met m.text text pc) pc top low (cond a (step_entries m text (point pc r top)) (shut_if b m pc from_top))
           (cond a (step_entries m text (point pc q low)) (shut_if b m pc from_low))
@@ -283,7 +283,7 @@ module _ (terms : Terms) (m : Module) (text : List ℕ) where
       by false true e none g = plain_alike join next pc r q top low even inn on o none g
       by false false e none g =
           let k = plain_alike join next pc r q top low even inn on o
-          (none_left from_top.reasons (shut_reasons m pc from_top.gives) none)
+          (none_left from_top.violations (shut_violations m pc from_top.gives) none)
           (record { first = g.first; rest = g.rest; gives = g.gives }) in
           let l = k.leads in
           record {
@@ -292,18 +292,18 @@ module _ (terms : Terms) (m : Module) (text : List ℕ) where
               z = l.z;
               to_y = l.to_y;
               to_z = l.to_z;
-              none = ap (λ i. i ++ shut_reasons m pc from_low.gives) l.none ∙ shut l;
+              none = ap (λ i. i ++ shut_violations m pc from_low.gives) l.none ∙ shut l;
               near = l.near;
             };
             same_words = k.same_words;
           }
         where
-          shut : Leads from_top from_low → shut_reasons m pc from_low.gives ≡ []
+          shut : Leads from_top from_low → shut_violations m pc from_low.gives ≡ []
           shut l =
-              ap (shut_reasons m pc) l.to_z
-              ∙ ap (λ a. shut_reasons m pc (point a l.z.pair.returns l.z.label ∷ [])) l.near.addr
-              ∙ sym (ap (shut_reasons m pc) l.to_y)
-              ∙ none_right from_top.reasons (shut_reasons m pc from_top.gives) none
+              ap (shut_violations m pc) l.to_z
+              ∙ ap (λ a. shut_violations m pc (point a l.z.pair.returns l.z.label ∷ [])) l.near.addr
+              ∙ sym (ap (shut_violations m pc) l.to_y)
+              ∙ none_right from_top.violations (shut_violations m pc from_top.gives) none
 
   -- ---- walks
   module _ (S : Point → FlowStep) (alike : Alike S) (join : ℕ) where
@@ -316,14 +316,14 @@ module _ (terms : Terms) (m : Module) (text : List ℕ) where
 
     -- after this step of a point
     abbrev further : ℕ → ℕ → FlowStep → Point → Walk
-    further fuel next s x = walk_on (Some next) s.reasons s.gives m text x (onward fuel)
+    further fuel next s x = walk_on (Some next) s.violations s.gives m text x (onward fuel)
 
     walk_more : (fuel next pc : ℕ) (r q : List ℕ) (top low : Label) → pc % 2 ≡ 0 → holds m.text pc ≡ true →
         arm_next join pc (met m.text text pc) ≡ Some next → Over top low → Same fuel →
         (s : FlowStep) → S (point pc r top) ≡ s → MeetsJoin (further fuel next s (point pc r top)) →
         further fuel next (S (point pc q low)) (point pc q low) ≡ further fuel next s (point pc r top)
     walk_more fuel next pc r q top low even here on o go s es meets =
-        by s.reasons s.gives (ap (λ s. s.reasons) es) (ap (λ s. s.gives) es) meets
+        by s.violations s.gives (ap (λ s. s.violations) es) (ap (λ s. s.gives) es) meets
       where
         it : Option Insn
         it = met m.text text pc
@@ -331,10 +331,11 @@ module _ (terms : Terms) (m : Module) (text : List ℕ) where
         first_same : (a b : Point) (bs : List Point) → a ∷ [] ≡ b ∷ bs → a ≡ b
         first_same a b bs e = cc
 
-        by : (rs : List Found) (gs : List Point) → (S (point pc r top)).reasons ≡ rs → (S (point pc r top)).gives ≡ gs →
-            MeetsJoin (further fuel next (record { reasons = rs; gives = gs }) (point pc r top)) →
+        by : (rs : List RuleViolation) (gs : List Point) →
+            (S (point pc r top)).violations ≡ rs → (S (point pc r top)).gives ≡ gs →
+            MeetsJoin (further fuel next (record { violations = rs; gives = gs }) (point pc r top)) →
             further fuel next (S (point pc q low)) (point pc q low)
-            ≡ further fuel next (record { reasons = rs; gives = gs }) (point pc r top)
+            ≡ further fuel next (record { violations = rs; gives = gs }) (point pc r top)
         by (x ∷ rs) gs er eg meets = absurd meets
         by [] [] er eg meets = absurd meets
         by [] (y ∷ ys) er eg meets =
@@ -342,9 +343,12 @@ module _ (terms : Terms) (m : Module) (text : List ℕ) where
             let l = k.leads in
             let e : l.y ≡ y = first_same _ _ _ (sym l.to_y ∙ eg) in
             let near : Near y l.z = subst (λ y. Near y l.z) e l.near in
-            ap (λ rs. further fuel next (record { reasons = rs; gives = (S (point pc q low)).gives }) (point pc q low))
+            ap (λ rs. further fuel next (record {
+              violations = rs;
+              gives = (S (point pc q low)).gives;
+            }) (point pc q low))
             l.none
-            ∙ ap (λ gs. further fuel next (record { reasons = []; gives = gs }) (point pc q low)) l.to_z
+            ∙ ap (λ gs. further fuel next (record { violations = []; gives = gs }) (point pc q low)) l.to_z
             ∙ ap (walked it m (point pc q low)) (go y l.z near (met_rest it m (point pc r top) (onward fuel y) meets))
             ∙ is_met it m (point pc q low) (onward fuel y)
             ∙ ap (λ ws. with_met it ws (onward fuel y)) (k.same_words r q)
@@ -352,7 +356,7 @@ module _ (terms : Terms) (m : Module) (text : List ℕ) where
 
     -- a step more, by whether the join is here and by where an instruction of an arm goes on
     abbrev onward_by : ℕ → Bool → Option ℕ → Point → Walk
-    onward_by fuel c n x = cond c (Meets 0 [] []) (walk_on n (S x).reasons (S x).gives m text x (onward fuel))
+    onward_by fuel c n x = cond c (Meets 0 [] []) (walk_on n (S x).violations (S x).gives m text x (onward fuel))
 
     walk_at : (fuel pc : ℕ) (r q : List ℕ) (top low : Label) → pc % 2 ≡ 0 → Over top low → Same fuel →
         MeetsJoin (onward (suc fuel) (point pc r top)) →
@@ -391,14 +395,14 @@ module _ (terms : Terms) (m : Module) (text : List ℕ) where
   kept_even a = omega arith
 
   arms_same : (S : Point → FlowStep) → Alike S → (insn : Insn) (target : ℕ) (arm : Arm) (pc : ℕ) (r q : List ℕ) →
-      (top low : Label) → Over top low → (step_arm S m text insn target arm (point pc r top)).reasons ≡ [] →
+      (top low : Label) → Over top low → (step_arm S m text insn target arm (point pc r top)).violations ≡ [] →
       Rests S insn target arm (point pc r top) (point pc q low)
   arms_same S alike insn target arm pc r q top low o none =
-      let apart = because_if (not (holds m.text arm.join)) pc ArmInsn arm.join in
+      let apart = violation_if (not (holds m.text arm.join)) pc ArmInsn arm.join in
       let w0 = first_walk S m text insn arm (point pc r top) in
       let w1 = second_walk S m text insn target arm (point pc r top) in
-      let rs0 = arm_reasons pc arm.cycles 0 w0 in
-      let rs1 = arm_reasons pc arm.cycles 1 w1 in
+      let rs0 = arm_violations pc arm.cycles 0 w0 in
+      let rs1 = arm_violations pc arm.cycles 1 w1 in
       let one : (apart ++ rs0) ≡ [] = none_left (apart ++ rs0) rs1 none in
       let k = does_keeps insn pc top.core low.core [] [] o.core tt in
       let first : Over _ _ = record { core = past_keeps insn pc top.core low.core o.core; words = o.words } in
@@ -417,7 +421,7 @@ module _ (terms : Terms) (m : Module) (text : List ℕ) where
 
   pub arms_rest : (insn : Insn) (target : ℕ) (arm : Arm) (top x : Point) → m.text.start % 2 ≡ 0 →
       x.pair.addr ≡ top.pair.addr → Absorbs top.label x.label →
-      (step_arm (flow_step terms m text) m text insn target arm top).reasons ≡ [] →
+      (step_arm (flow_step terms m text) m text insn target arm top).violations ≡ [] →
       Rests (flow_step terms m text) insn target arm top x
   arms_rest insn target arm top x even e a none =
       subst (λ pc. Rests (flow_step terms m text) insn target arm top (point pc x.pair.returns x.label)) (sym e)
@@ -426,14 +430,15 @@ module _ (terms : Terms) (m : Module) (text : List ℕ) where
       low : Point
       low = point top.pair.addr x.pair.returns x.label
 
-      of_step : (S : Point → FlowStep) → Alike S → (step_arm S m text insn target arm top).reasons ≡ [] →
+      of_step : (S : Point → FlowStep) → Alike S → (step_arm S m text insn target arm top).violations ≡ [] →
           Rests S insn target arm top low
       of_step S alike none =
           arms_same S alike insn target arm top.pair.addr top.pair.returns x.pair.returns top.label x.label
           (record { core = of_joins _ _ a.core; words = of_joins _ _ a.words }) none
 
       by : (b : Bool) → has_stub m text ≡ b →
-          (step_arm (cond b (step_stub terms m text) (step_of terms m text)) m text insn target arm top).reasons ≡ [] →
+          (step_arm (cond b (step_stub terms m text) (step_of terms m text))
+          m text insn target arm top).violations ≡ [] →
           Rests (cond b (step_stub terms m text) (step_of terms m text)) insn target arm top low
       by true stub none = of_step (step_stub terms m text) (stub_alike even stub) none
       by false stub none = of_step (step_of terms m text) plain_alike none

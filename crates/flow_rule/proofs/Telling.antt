@@ -12,7 +12,7 @@ use Rattle.flow_rule.specs.declared.Val.TheVariants.{Public, Secret}
 use Rattle.flow_rule.specs.Values.{is_secret, set_each, val}
 use Rattle.flow_rule.specs.declared.Reason.TheVariants.{SecretAtExit, DataAtExit}
 use Rattle.flow_rule.specs.Does.{word_no}
-use Rattle.flow_rule.specs.Reasons.{because, because_if, exit_reasons, word_reasons}
+use Rattle.flow_rule.specs.Violations.{violation, violation_if, exit_violations, word_violations}
 use Rattle.flow_rule.specs.Laws.{AgreeOn}
 use Rattle.flow_rule.proofs.Meaning.{Agrees, same}
 use Rattle.flow_rule.proofs.Cores.{AgreeCore}
@@ -63,34 +63,34 @@ val_bare (r ∷ rs) v k e = by (k == r) refl e (val_bare rs (set v r Public) k)
     by true f e go = absurd cc
     by false f e go = let ne : k ≢ r = grind (arith, nat_tests) in go e ∙ get_or-set_other v r k Public Secret ne
 
-no_secret : (k n pc : ℕ) (v : List Val) → exit_reasons k n pc v ≡ [] → (i : ℕ) → n ≤ i → i < n + k → is_secret (val v i) ≡ false
+no_secret : (k n pc : ℕ) (v : List Val) → exit_violations k n pc v ≡ [] → (i : ℕ) → n ≤ i → i < n + k → is_secret (val v i) ≡ false
 no_secret zero n pc v e i low high = absurd (omega arith)
 no_secret (suc k) n pc v e i low high = by (is_secret (val v n)) refl e (cases_lt n i) (λ e lt. no_secret k (n + 1) pc v e i (omega arith) (omega arith))
   where
-    by : (c : Bool) → is_secret (val v n) ≡ c → cond c (because pc SecretAtExit n) (exit_reasons k (n + 1) pc v) ≡ [] → (n < i) ⊎ (i ≤ n) →
-        (exit_reasons k (n + 1) pc v ≡ [] → n < i → is_secret (val v i) ≡ false) → is_secret (val v i) ≡ false
+    by : (c : Bool) → is_secret (val v n) ≡ c → cond c (violation pc SecretAtExit n) (exit_violations k (n + 1) pc v) ≡ [] → (n < i) ⊎ (i ≤ n) →
+        (exit_violations k (n + 1) pc v ≡ [] → n < i → is_secret (val v i) ≡ false) → is_secret (val v i) ≡ false
     by true f e h go = absurd cc
     by false f e (inl lt) go = go e lt
     by false f e (inr ge) go = let g : i ≡ n = omega arith in ap (λ x. is_secret (val v x)) g ∙ f
 
 -- a register that is no answer is equal where a call ends
-pub same_reg : (s : Section) (answers : List ℕ) (pc : ℕ) (v : List Val) (ca cb : List ℕ) → AgreeCore s v ca cb → exit_reasons 16 0 pc (set_each answers Public v) ≡ [] → (k : ℕ) → k < 16 → on_list answers k ≡ false → reg ca k ≡ reg cb k
+pub same_reg : (s : Section) (answers : List ℕ) (pc : ℕ) (v : List Val) (ca cb : List ℕ) → AgreeCore s v ca cb → exit_violations 16 0 pc (set_each answers Public v) ≡ [] → (k : ℕ) → k < 16 → on_list answers k ≡ false → reg ca k ≡ reg cb k
 same_reg s answers pc v ca cb h e k lt off =
     same s (val v k) (reg ca k) (reg cb k) (h.at k) (ap is_secret (sym (val_bare answers v k off)) ∙ no_secret 16 0 pc (set_each answers Public v) e k (omega arith) (omega arith))
 
-pub same_but : (s : Section) (answers : List ℕ) (pc : ℕ) (v : List Val) (ca cb : List ℕ) → AgreeCore s v ca cb → exit_reasons 16 0 pc (set_each answers Public v) ≡ [] → blank answers ca ≡ blank answers cb
+pub same_but : (s : Section) (answers : List ℕ) (pc : ℕ) (v : List Val) (ca cb : List ℕ) → AgreeCore s v ca cb → exit_violations 16 0 pc (set_each answers Public v) ≡ [] → blank answers ca ≡ blank answers cb
 same_but s answers pc v ca cb h e = blanked answers ca cb h.long_a h.long_b (λ k lt off. same_reg s answers pc v ca cb h e k lt off)
 
 -- ---- the public words
-pub agrees_on : (m : Module) (addrs : List ℕ) (pc : ℕ) (words : List Val) (da db : List ℕ) → AgreeData m words da db → word_reasons m pc words addrs ≡ [] → AgreeOn m addrs da db
+pub agrees_on : (m : Module) (addrs : List ℕ) (pc : ℕ) (words : List Val) (da db : List ℕ) → AgreeData m words da db → word_violations m pc words addrs ≡ [] → AgreeOn m addrs da db
 agrees_on m [] pc words da db h e i d lt = absurd (omega arith)
 agrees_on m (a ∷ addrs) pc words da db h e zero d lt =
-    let here = because_if (is_secret (nth (word_no m a) words Secret)) pc DataAtExit a in
+    let here = violation_if (is_secret (nth (word_no m a) words Secret)) pc DataAtExit a in
     same m.text (nth (word_no m a) words Secret) (word da (word_no m a)) (word db (word_no m a)) (h.at (word_no m a))
-    (none_if (is_secret (nth (word_no m a) words Secret)) pc DataAtExit a (none_left here (word_reasons m pc words addrs) e))
+    (none_if (is_secret (nth (word_no m a) words Secret)) pc DataAtExit a (none_left here (word_violations m pc words addrs) e))
 agrees_on m (a ∷ addrs) pc words da db h e (suc i) d lt =
-    let here = because_if (is_secret (nth (word_no m a) words Secret)) pc DataAtExit a in
-    agrees_on m addrs pc words da db h (none_right here (word_reasons m pc words addrs) e) i d (omega arith)
+    let here = violation_if (is_secret (nth (word_no m a) words Secret)) pc DataAtExit a in
+    agrees_on m addrs pc words da db h (none_right here (word_violations m pc words addrs) e) i d (omega arith)
 
 one_open : (s : Section) (v : List Val) (k n a b : ℕ) → (n ≡ k → a ≡ b) → Agrees s (nth n v Secret) a b → Agrees s (nth n (set v k Public) Secret) a b
 one_open s [] k n a b e h = h

@@ -7,8 +7,8 @@ use Rattle.arm_balance.specs.Balance.{met_cycles}
 use Rattle.flow_rule.specs.declared.Reason.TheVariants.{ArmTime}
 use Rattle.flow_rule.specs.Rounds.{Point}
 use Rattle.flow_rule.specs.Does.{plan_val, write_reaches}
-use Rattle.flow_rule.specs.Reasons.{because_if}
-use Rattle.flow_rule.specs.Arms.{written_regs, written_words, Walk, Meets, Stops, walked, arm_reasons}
+use Rattle.flow_rule.specs.Violations.{violation_if}
+use Rattle.flow_rule.specs.Arms.{written_regs, written_words, Walk, Meets, Stops, walked, arm_violations}
 
 abbrev pub met_regs : Option Insn → List ℕ
 met_regs None = []
@@ -55,12 +55,12 @@ met_rest o m x (Meets cycles regs words) meets = tt
 met_rest None m x (Stops addr) meets = meets
 met_rest (Some insn) m x (Stops addr) meets = meets
 
--- an arm without a reason comes to the join in its time
-pub on_time : (branch time number : ℕ) (w : Walk) → arm_reasons branch time number w ≡ [] →
+-- an arm without a violation comes to the join in its time
+pub on_time : (branch time number : ℕ) (w : Walk) → arm_violations branch time number w ≡ [] →
     MeetsJoin w × (time_to w ≡ time)
 on_time branch time number (Meets cycles regs words) none = (tt, by (cycles == time) refl none)
   where
-    by : (b : Bool) → (cycles == time) ≡ b → because_if (not b) branch ArmTime number ≡ [] → cycles ≡ time
+    by : (b : Bool) → (cycles == time) ≡ b → violation_if (not b) branch ArmTime number ≡ [] → cycles ≡ time
     by true e none = grind (arith, nat_tests)
     by false e none = absurd cc
 on_time branch time number (Stops addr) none = absurd cc

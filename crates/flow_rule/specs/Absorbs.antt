@@ -15,11 +15,11 @@ pub record Absorbs (top low : Label) : Type 0 where
   pub core : join_each top.core low.core ≡ top.core
   pub words : join_each top.words low.words ≡ top.words
 
--- where a branch has no reason under a label, its arms tell the same under each label that this one absorbs
+-- where a branch has no violation under a label, its arms tell the same under each label that this one absorbs
 abbrev pub ArmsRest : Type 0
 ArmsRest = (terms : Terms) (m : Module) (text : List ℕ) (insn : Insn) (target : ℕ) (arm : Arm) (top x : Point) → m.text.start % 2 ≡ 0 →
     x.pair.addr ≡ top.pair.addr → Absorbs top.label x.label →
     let step = flow_step terms m text in
-    (step_arm step m text insn target arm top).reasons ≡ [] →
+    (step_arm step m text insn target arm top).violations ≡ [] →
     (first_walk step m text insn arm x ≡ first_walk step m text insn arm top)
     × (second_walk step m text insn target arm x ≡ second_walk step m text insn target arm top)

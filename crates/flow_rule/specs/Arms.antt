@@ -20,11 +20,11 @@ use Rattle.flow_rule.specs.declared.Val.{Val}
 use Rattle.flow_rule.specs.declared.Val.TheVariants.{Known, Secret}
 use Rattle.flow_rule.specs.Values.{is_secret, set_each, val, put_val}
 use Rattle.flow_rule.specs.declared.Reason.TheVariants.{Arm as ArmInsn, ArmTime}
-use Rattle.flow_rule.specs.Rounds.{Point, Found, FlowStep}
+use Rattle.flow_rule.specs.Rounds.{Point, RuleViolation, FlowStep}
 use Rattle.flow_rule.specs.declared.Reach.{Reach}
 use Rattle.flow_rule.specs.Does.{plan_val, write_reaches, word_no, does_val, past_val}
 use Rattle.flow_rule.specs.declared.Verdict.{Verdict}
-use Rattle.flow_rule.specs.Reasons.{because, because_if}
+use Rattle.flow_rule.specs.Violations.{violation, violation_if}
 use Rattle.flow_rule.specs.Verdict.{start_under, flow_step, Decided}
 
 -- what an instruction writes
@@ -47,19 +47,20 @@ written_words m [] = []
 written_words m (x ∷ xs) = elim x.addr [ Known a ↦ word_no m a ∷ written_words m xs | _ ↦ written_words m xs ]
 
 -- Secret in these registers, which keep their rules: R3 stays Known 0
-abbrev pub blot_core : List ℕ → List Val → List Val
-blot_core regs core = fold (λ vs n. put_val vs n Secret) core regs
+abbrev pub clobbered_core : List ℕ → List Val → List Val
+clobbered_core regs core = fold (λ vs n. put_val vs n Secret) core regs
 
 -- how an arm goes: to the join in so many cycles, writing these registers and words; or no further than this address,
--- where no instruction of an arm stands, or one with a reason
+-- where no instruction of an arm stands, or one with a violation
 pub data Walk : Type 0 where
   Meets : (cycles : ℕ) (regs words : List ℕ) → Walk
   Stops : (addr : ℕ) → Walk
 
 -- Secret where a walk to the join writes
-abbrev pub blot : Walk → Label → Label
-blot (Meets cycles regs words) l = record { core = blot_core regs l.core; words = set_each words Secret l.words }
-blot (Stops addr) l = l
+abbrev pub clobbered_by : Walk → Label → Label
+clobbered_by (Meets cycles regs words) l =
+    record { core = clobbered_core regs l.core; words = set_each words Secret l.words }
+clobbered_by (Stops addr) l = l
 
 -- an instruction of an arm, and the rest of it
 abbrev pub walked : Option Insn → Module → Point → Walk → Walk
@@ -70,8 +71,8 @@ walked (Some insn) m x (Meets cycles regs words) =
     Meets (cycles_of insn + cycles) (written_regs insn ++ regs) (ws ++ words)
 
 -- from a point, by where an arm goes on from its instruction, and by what its step gives: a step out of the text has no
--- reason, and the arm stops at the address outside
-abbrev pub walk_on : Option ℕ → List Found → List Point → Module → List ℕ → Point → (Point → Walk) → Walk
+-- violation, and the arm stops at the address outside
+abbrev pub walk_on : Option ℕ → List RuleViolation → List Point → Module → List ℕ → Point → (Point → Walk) → Walk
 walk_on None rs gs m text x rest = Stops x.pair.addr
 walk_on (Some next) (r ∷ rs) gs m text x rest = Stops x.pair.addr
 walk_on (Some next) [] [] m text x rest = Stops next
@@ -82,7 +83,8 @@ abbrev pub walk : (Point → FlowStep) → Module → List ℕ → ℕ → ℕ �
 walk step m text join zero x = Stops x.pair.addr
 walk step m text join (suc fuel) x =
     let s = step x in
-    let rest = walk_on (arm_on m.text text join x.pair.addr) s.reasons s.gives m text x (walk step m text join fuel) in
+    let rest = walk_on (arm_on m.text text join x.pair.addr) s.violations s.gives
+    m text x (walk step m text join fuel) in
     if x.pair.addr == join then Meets 0 [] [] else rest
 
 -- where an arm begins: past the jump, or at its target
@@ -99,10 +101,10 @@ abbrev pub second_walk : (Point → FlowStep) → Module → List ℕ → Insn �
 second_walk step m text insn target arm x =
     walk step m text arm.join (suc arm.join) (arm_start insn target x (does_val insn x.pair.addr x.label.core []).core)
 
--- an arm that stops has the reason Arm with the address, one of another time ArmTime with its number
-abbrev pub arm_reasons : ℕ → ℕ → ℕ → Walk → List Found
-arm_reasons branch time number (Meets cycles regs words) = because_if (not (cycles == time)) branch ArmTime number
-arm_reasons branch time number (Stops addr) = because branch ArmInsn addr
+-- an arm that stops has a violation by Arm with the address, one of another time by ArmTime with its number
+abbrev pub arm_violations : ℕ → ℕ → ℕ → Walk → List RuleViolation
+arm_violations branch time number (Meets cycles regs words) = violation_if (not (cycles == time)) branch ArmTime number
+arm_violations branch time number (Stops addr) = violation branch ArmInsn addr
 
 -- the rule of a branch with a certificate
 abbrev pub step_arm : (Point → FlowStep) → Module → List ℕ → Insn → ℕ → Arm → Point → FlowStep
@@ -110,10 +112,10 @@ step_arm step m text insn target arm x =
     let pc = x.pair.addr in
     let w0 = first_walk step m text insn arm x in
     let w1 = second_walk step m text insn target arm x in
-    let l = blot w1 (blot w0 x.label) in
+    let l = clobbered_by w1 (clobbered_by w0 x.label) in
     record {
-      reasons = because_if (not (holds m.text arm.join)) pc ArmInsn arm.join
-          ++ arm_reasons pc arm.cycles 0 w0 ++ arm_reasons pc arm.cycles 1 w1;
+      violations = violation_if (not (holds m.text arm.join)) pc ArmInsn arm.join
+          ++ arm_violations pc arm.cycles 0 w0 ++ arm_violations pc arm.cycles 1 w1;
       gives = record {
         pair = record { addr = arm.join; returns = x.pair.returns };
         label = record { core = slice_set l.core 0 (Known arm.join); words = l.words };

@@ -8,24 +8,24 @@ use Rattle.flow_rule.specs.declared.Val.TheVariants.{Known, Away, Public}
 use Rattle.flow_rule.specs.Values.{set_each, val}
 use Rattle.flow_rule.specs.declared.Reason.{Reason}
 use Rattle.flow_rule.specs.declared.Reason.TheVariants.{UnknownTarget}
-use Rattle.flow_rule.specs.Rounds.{Found, FlowStep}
-use Rattle.flow_rule.specs.Reasons.{because, exit_reasons, word_reasons}
+use Rattle.flow_rule.specs.Rounds.{RuleViolation, FlowStep}
+use Rattle.flow_rule.specs.Violations.{violation, exit_violations, word_violations}
 
 -- to close, no register and no flag may be secret but the answers, which are as if they were Public: the data become 0
 abbrev pub closes : Terms → ℕ → List Val → FlowStep
-closes terms pc core = record { reasons = exit_reasons 16 0 pc (set_each terms.answers Public core); gives = [] }
+closes terms pc core = record { violations = exit_violations 16 0 pc (set_each terms.answers Public core); gives = [] }
 
 -- to leave, no public word of the data either
 abbrev pub exit_step : Terms → Module → ℕ → List Val → List Val → FlowStep
-exit_step terms m pc core words = record { reasons = word_reasons m pc words terms.public ++ exit_reasons 16 0 pc (set_each terms.answers Public core); gives = [] }
+exit_step terms m pc core words = record { violations = word_violations m pc words terms.public ++ exit_violations 16 0 pc (set_each terms.answers Public core); gives = [] }
 
 -- on from pc with this core: to a known place, where inside the text the label is handed on, or away
 abbrev pub goes_by : Terms → Val → Module → ℕ → List ℕ → List Val → List Val → FlowStep
 goes_by terms (Known to) m pc returns core words =
-    if holds m.text to then record { reasons = []; gives = record { pair = record { addr = to; returns = returns }; label = record { core = core; words = words } } ∷ [] }
+    if holds m.text to then record { violations = []; gives = record { pair = record { addr = to; returns = returns }; label = record { core = core; words = words } } ∷ [] }
     else exit_step terms m pc core words
 goes_by terms Away m pc returns core words = exit_step terms m pc core words
-goes_by terms _ m pc returns core words = record { reasons = because pc UnknownTarget 0; gives = [] }
+goes_by terms _ m pc returns core words = record { violations = violation pc UnknownTarget 0; gives = [] }
 
 -- on from pc, to where PC then points
 abbrev pub goes : Terms → Module → ℕ → List ℕ → List Val → List Val → FlowStep
@@ -33,11 +33,11 @@ goes terms m pc returns core words = goes_by terms (val core 0) m pc returns cor
 
 -- a branch that goes both ways
 abbrev pub both : FlowStep → FlowStep → FlowStep
-both a b = record { reasons = a.reasons ++ b.reasons; gives = a.gives ++ b.gives }
+both a b = record { violations = a.violations ++ b.violations; gives = a.gives ++ b.gives }
 
-abbrev pub also : List Found → FlowStep → FlowStep
-also rs s = record { reasons = rs ++ s.reasons; gives = s.gives }
+abbrev pub also : List RuleViolation → FlowStep → FlowStep
+also rs s = record { violations = rs ++ s.violations; gives = s.gives }
 
 -- nothing is met behind this instruction
 abbrev pub fails : ℕ → Reason → ℕ → FlowStep
-fails pc why v = record { reasons = because pc why v; gives = [] }
+fails pc why v = record { violations = violation pc why v; gives = [] }

@@ -11,8 +11,8 @@ use Rattle.insn_decode.specs.declared.insn.Insn.TheVariants.{Two, One}
 use Rattle.flow_rule.specs.declared.Val.{Val}
 use Rattle.flow_rule.specs.declared.Val.TheVariants.{Known, Secret}
 use Rattle.flow_rule.specs.declared.Reason.TheVariants.{UnknownTarget}
-use Rattle.flow_rule.specs.Rounds.{Found}
-use Rattle.flow_rule.specs.Reasons.{because_if}
+use Rattle.flow_rule.specs.Rounds.{RuleViolation}
+use Rattle.flow_rule.specs.Violations.{violation_if}
 
 -- how many return addresses a pair may have
 abbrev pub most_returns : ℕ
@@ -29,18 +29,18 @@ without_newest xs = take (length xs - 1) xs
 
 -- what an instruction makes of the list
 pub record ReturnTurn : Type 0 where
-  pub reasons : List Found
+  pub violations : List RuleViolation
   pub returns : List ℕ
   pub stops : Bool  -- a return to another place than the last address
 
 -- a call to an address: its return address comes last
 abbrev pub calls : ℕ → List ℕ → ℕ → ReturnTurn
-calls pc returns from = record { reasons = because_if (nat_le most_returns (length returns)) pc UnknownTarget 0; returns = returns ++ from ∷ []; stops = false }
+calls pc returns from = record { violations = violation_if (nat_le most_returns (length returns)) pc UnknownTarget 0; returns = returns ++ from ∷ []; stops = false }
 
 -- the list after an instruction whose reads gave these values
 abbrev pub return_turn : Insn → ℕ → List ℕ → List Val → ReturnTurn
 return_turn (One Call w a) pc returns values = calls pc returns (add16 pc (2 * length_of (One Call w a)))
 return_turn (Two Mov Word (Increment r) (Reg d)) pc returns values =
-    if (r == 1) && (d == 0) then record { reasons = []; returns = without_newest returns; stops = not (last_is (nth 0 values Secret) returns) }
-    else record { reasons = []; returns = returns; stops = false }
-return_turn insn pc returns values = record { reasons = []; returns = returns; stops = false }
+    if (r == 1) && (d == 0) then record { violations = []; returns = without_newest returns; stops = not (last_is (nth 0 values Secret) returns) }
+    else record { violations = []; returns = returns; stops = false }
+return_turn insn pc returns values = record { violations = []; returns = returns; stops = false }

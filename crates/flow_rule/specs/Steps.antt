@@ -1,4 +1,4 @@
--- One instruction's step at a pair: its reasons, and the pairs and labels that it gives.
+-- One instruction's step at a pair: its violations, and the pairs and labels that it gives.
 use Rattle.std.specs.Prelude.{ℕ, List, [], ◌++◌, map, ◌==◌, if◌then◌else◌, Option, Some, None}
 use Rattle.sm_words.specs.Words.{word_at}
 use Rattle.insn_decode.specs.declared.insn.Insn.{Insn}
@@ -13,7 +13,7 @@ use Rattle.flow_rule.specs.Values.{is_secret, val, put_val}
 use Rattle.flow_rule.specs.declared.Reason.TheVariants.{SecretBranch, UnknownTarget, Illegal, Unit as UnitWord}
 use Rattle.flow_rule.specs.Rounds.{Point, FlowStep}
 use Rattle.flow_rule.specs.Does.{plan_val, read_val, writes_val, read_reaches, write_reaches, does_val, past_val}
-use Rattle.flow_rule.specs.Reasons.{because_if, reach_reasons}
+use Rattle.flow_rule.specs.Violations.{violation_if, reach_violations}
 use Rattle.flow_rule.specs.Going.{closes, goes, both, also, fails}
 use Rattle.flow_rule.specs.Returns.{return_turn}
 
@@ -26,7 +26,7 @@ step_plain terms m text insn x =
     let values = map (read_val m text x.label.words) (read_reaches xs) in
     let d = does_val insn pc x.label.core values in
     let t = return_turn insn pc x.pair.returns values in
-    also (reach_reasons m pc xs ++ t.reasons)
+    also (reach_violations m pc xs ++ t.violations)
     (if t.stops then fails pc UnknownTarget 0 else goes terms m pc t.returns d.core (writes_val m x.label.words (write_reaches xs) d.stored))
 
 -- a jump that is always taken has one way; any other has both, and its flags may not be secret
@@ -35,7 +35,7 @@ step_jump terms m text insn cond x =
     let pc = x.pair.addr in
     let taken = goes terms m pc x.pair.returns (does_val insn pc x.label.core []).core x.label.words in
     if cond == 7 then taken
-    else also (because_if (is_secret (val x.label.core 2)) pc SecretBranch 0) (both taken (goes terms m pc x.pair.returns (past_val insn pc x.label.core) x.label.words))
+    else also (violation_if (is_secret (val x.label.core 2)) pc SecretBranch 0) (both taken (goes terms m pc x.pair.returns (past_val insn pc x.label.core) x.label.words))
 
 -- unprotect closes; own id and caller id are public; the others are refused
 abbrev pub step_unit : Terms → Module → Insn → UnitName → Point → FlowStep

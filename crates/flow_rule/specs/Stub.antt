@@ -16,10 +16,10 @@ use Rattle.flow_rule.specs.declared.Val.{Val}
 use Rattle.flow_rule.specs.declared.Val.TheVariants.{Known}
 use Rattle.flow_rule.specs.Values.{val, put_val}
 use Rattle.flow_rule.specs.declared.Reason.TheVariants.{UnknownTarget}
-use Rattle.flow_rule.specs.Rounds.{Point, Found, FlowStep}
+use Rattle.flow_rule.specs.Rounds.{Point, RuleViolation, FlowStep}
 use Rattle.flow_rule.specs.declared.Reach.{Reach}
 use Rattle.flow_rule.specs.Does.{writes_val, past_val, lowered_val}
-use Rattle.flow_rule.specs.Reasons.{because_if, reach_reasons}
+use Rattle.flow_rule.specs.Violations.{violation_if, reach_violations}
 use Rattle.flow_rule.specs.Returns.{calls}
 use Rattle.flow_rule.specs.Steps.{step_of}
 
@@ -65,13 +65,13 @@ abbrev pub is_open : ℕ → Bool
 is_open k = nat_le body_word k && nat_le k (call_word - 1)
 
 -- a step from outside into the stub's closed words
-abbrev pub shut_reasons : Module → ℕ → List Point → List Found
-shut_reasons m pc xs = flat_map (λ x. because_if (is_shut (word_number m x.pair.addr)) pc UnknownTarget 0) xs
+abbrev pub shut_violations : Module → ℕ → List Point → List RuleViolation
+shut_violations m pc xs = flat_map (λ x. violation_if (is_shut (word_number m x.pair.addr)) pc UnknownTarget 0) xs
 
 -- an instruction that is none of the open words may not go there
 abbrev pub shut_if : Bool → Module → ℕ → FlowStep → FlowStep
 shut_if true m pc s = s
-shut_if false m pc s = record { reasons = s.reasons ++ shut_reasons m pc s.gives; gives = s.gives }
+shut_if false m pc s = record { violations = s.violations ++ shut_violations m pc s.gives; gives = s.gives }
 
 -- the first k entries of the table, each with this list and label
 abbrev pub to_entries : Module → List ℕ → ℕ → List ℕ → List Val → List Val → List Point
@@ -91,7 +91,7 @@ step_entries m text x =
     let push : Reach = record { kind = Write; addr = val core 1; width = Word } in
     let t = calls pc x.pair.returns (pc + 4) in
     record {
-      reasons = reach_reasons m pc (push ∷ []) ++ t.reasons;
+      violations = reach_violations m pc (push ∷ []) ++ t.violations;
       gives = to_entries m text (entries_of m text) t.returns core (writes_val m x.label.words (push ∷ []) (Known (pc + 4) ∷ []));
     }
 

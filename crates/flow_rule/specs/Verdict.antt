@@ -9,9 +9,9 @@ use Rattle.flow_rule.specs.declared.Val.{Val}
 use Rattle.flow_rule.specs.declared.Val.TheVariants.{Known, Away, Public, Secret}
 use Rattle.flow_rule.specs.Values.{set_each}
 use Rattle.flow_rule.specs.declared.Reason.TheVariants.{TooMany}
-use Rattle.flow_rule.specs.Rounds.{Point, Found, FlowStep, IsLabelling, rounds, all_reasons}
+use Rattle.flow_rule.specs.Rounds.{Point, RuleViolation, FlowStep, IsLabelling, rounds, all_violations}
 use Rattle.flow_rule.specs.Does.{word_no}
-use Rattle.flow_rule.specs.Reasons.{BeforeAll, AmongThem}
+use Rattle.flow_rule.specs.Violations.{BeforeAll, AmongThem}
 use Rattle.flow_rule.specs.Steps.{step_of}
 use Rattle.flow_rule.specs.Stub.{has_stub, step_stub}
 
@@ -42,10 +42,10 @@ start_under terms m text =
 abbrev pub flow_step : Terms → Module → List ℕ → Point → FlowStep
 flow_step terms m text = if has_stub m text then step_stub terms m text else step_of terms m text
 
--- Yes where no pair of the labelling has a reason; No with the least reason; TooMany as soon as a round has too many pairs
+-- Yes where no pair of the labelling has a violation; No with the least; TooMany as soon as a round has too many pairs
 abbrev pub Decided : (Point → FlowStep) → Point → ℕ → Verdict → Type 0
-Decided step start begin Yes = (xs : List Point) × IsLabelling step start xs × (length xs ≤ most_pairs) × (all_reasons step xs ≡ [])
+Decided step start begin Yes = (xs : List Point) × IsLabelling step start xs × (length xs ≤ most_pairs) × (all_violations step xs ≡ [])
 Decided step start begin (No addr reason value) =
-    let r : Found = record { addr = addr; why = reason; value = value } in
-    ((xs : List Point) × IsLabelling step start xs × (length xs ≤ most_pairs) × AmongThem r (all_reasons step xs) × BeforeAll r (all_reasons step xs))
+    let r : RuleViolation = record { addr = addr; why = reason; value = value } in
+    ((xs : List Point) × IsLabelling step start xs × (length xs ≤ most_pairs) × AmongThem r (all_violations step xs) × BeforeAll r (all_violations step xs))
     ⊎ ((n : ℕ) × (most_pairs < length (rounds step start n)) × (r ≡ record { addr = begin; why = TooMany; value = 0 }))

@@ -83,7 +83,7 @@ pub fn released()
     ensures kept { Kept }
 {}
 
-/// What no reason says of a branch's arms under a label holds of every label that it absorbs.
+/// Where a branch has no violation under a label, its arms do the same under every label that this one absorbs.
 pub fn arms_rest()
     ensures rest { ArmsRest }
 {}

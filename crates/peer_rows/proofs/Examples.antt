@@ -12,7 +12,7 @@ use Rattle.arm_balance.specs.Met.{met}
 use Rattle.flow_rule.specs.Terms.{no_terms}
 use Rattle.flow_rule.specs.declared.Verdict.TheVariants.{Yes}
 use Rattle.flow_rule.specs.Does.{plan_val, does_val}
-use Rattle.flow_rule.specs.Rounds.{Point, FlowStep, rounds, all_reasons}
+use Rattle.flow_rule.specs.Rounds.{Point, FlowStep, rounds, all_violations}
 use Rattle.flow_rule.specs.Steps.{step_of}
 use Rattle.flow_rule.specs.Stub.{step_stub, has_stub}
 use Rattle.flow_rule.specs.Verdict.{start_under}
@@ -123,9 +123,9 @@ balanced_stays : balanced_points 6 ≡ balanced_points 5
 unfolding bytes_of meet step_arms met step_of step_stub has_stub plan_val does_val insn_of cycles_of
 balanced_stays = refl
 
-balanced_reasons : all_reasons (flow_under no_terms (row_module 0x0322) (bytes_of balanced) meet) (balanced_points 5) ≡ []
+balanced_violations : all_violations (flow_under no_terms (row_module 0x0322) (bytes_of balanced) meet) (balanced_points 5) ≡ []
 unfolding bytes_of meet step_arms met step_of step_stub has_stub plan_val does_val insn_of cycles_of
-balanced_reasons = refl
+balanced_violations = refl
 
 balanced_few : length (balanced_points 5) ≡ 5
 unfolding bytes_of meet step_arms met step_of step_stub has_stub plan_val does_val insn_of cycles_of
@@ -133,7 +133,7 @@ balanced_few = refl
 
 pub balanced_accepted : VerdictWith (row_module 0x0322) (bytes_of balanced) meet Yes
 balanced_accepted =
-    (balanced_points 5, record { rounds_to = 5; is = refl; stays = balanced_stays }, subst (λ n. n ≤ 16384) (sym balanced_few) (omega arith), balanced_reasons)
+    (balanced_points 5, record { rounds_to = 5; is = refl; stays = balanced_stays }, subst (λ n. n ≤ 16384) (sym balanced_few) (omega arith), balanced_violations)
 
 pub blind_peers : BlindPeers
 unfolding all_words

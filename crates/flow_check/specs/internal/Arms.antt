@@ -14,10 +14,10 @@ use Rattle.flow_rule.specs.declared.Reach.{Reach}
 use Rattle.flow_rule.specs.declared.Reason.TheVariants.{Arm as ArmInsn, ArmTime}
 use Rattle.flow_rule.specs.declared.Val.{Val}
 use Rattle.flow_rule.specs.Values.{is_secret}
-use Rattle.flow_rule.specs.Rounds.{Point, Found, FlowStep}
-use Rattle.flow_rule.specs.Reasons.{because, because_if}
+use Rattle.flow_rule.specs.Rounds.{Point, RuleViolation, FlowStep}
+use Rattle.flow_rule.specs.Violations.{violation, violation_if}
 use Rattle.flow_rule.specs.Does.{write_reaches}
-use Rattle.flow_rule.specs.Arms.{Walk, Meets, Stops, written_reg, written_regs, written_words, blot, step_arm}
+use Rattle.flow_rule.specs.Arms.{Walk, Meets, Stops, written_reg, written_regs, written_words, clobbered_by, step_arm}
 use Rattle.flow_check.specs.declared.arm.Tally.{Tally}
 use Rattle.flow_check.specs.declared.branch.BranchSite.{BranchSite}
 
@@ -29,19 +29,19 @@ untold l = record { cycles = 0; state = l }
 abbrev pub told_insn : ℕ → Insn → Module → List Reach → Tally → Tally
 told_insn time insn m xs t = record {
   cycles = t.cycles + time;
-  state = blot (Meets time (written_regs insn) (written_words m (write_reaches xs))) t.state;
+  state = clobbered_by (Meets time (written_regs insn) (written_words m (write_reaches xs))) t.state;
 }
 
 -- what was told, and a walk's part: its cycles and Secret where it writes; or the address where it stops
 abbrev pub tally_told : Walk → Tally → Result Tally ℕ
 tally_told (Meets cycles regs words) t =
-    Ok (record { cycles = t.cycles + cycles; state = blot (Meets cycles regs words) t.state })
+    Ok (record { cycles = t.cycles + cycles; state = clobbered_by (Meets cycles regs words) t.state })
 tally_told (Stops addr) t = Err addr
 
--- the reasons of an arm, by what its walk told
-abbrev pub told_reasons : ℕ → ℕ → ℕ → Result Tally ℕ → List Found
-told_reasons branch time number (Ok t) = because_if (not (t.cycles == time)) branch ArmTime number
-told_reasons branch time number (Err addr) = because branch ArmInsn addr
+-- the violations of an arm, by what its walk told
+abbrev pub told_violations : ℕ → ℕ → ℕ → Result Tally ℕ → List RuleViolation
+told_violations branch time number (Ok t) = violation_if (not (t.cycles == time)) branch ArmTime number
+told_violations branch time number (Err addr) = violation branch ArmInsn addr
 
 -- the state behind an arm: as before where it stops
 abbrev pub told_state : Label → Result Tally ℕ → Label

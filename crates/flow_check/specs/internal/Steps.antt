@@ -15,20 +15,20 @@ use Rattle.flow_check.specs.declared.step.Stepped.{Stepped}
 use Rattle.flow_check.specs.internal.Violations.{noted}
 use Rattle.flow_check.specs.internal.Points.{list_of, addrs_of, points_at}
 
--- without reasons, all that a step gives has these return addresses and this state
+-- without violations, all that a step gives has these return addresses and this state
 abbrev pub SuccessorsAlike : FlowStep → CallString → Label → Type 0
 SuccessorsAlike step returns label =
-    step.reasons ≡ [] → step.gives ≡ points_at (addrs_of step.gives) (list_of returns) label
+    step.violations ≡ [] → step.gives ≡ points_at (addrs_of step.gives) (list_of returns) label
 
 -- a step was told: the least of its violations and of what was there, and where it goes on
 pub record Tells (step : FlowStep) (old new : Stepped) (state : Label) : Type 0 where
-  pub least : new.least ≡ noted step.reasons old.least
+  pub least : new.least ≡ noted step.violations old.least
   pub targets : new.targets.items ≡ old.targets.items ++ addrs_of step.gives
   pub successors : SuccessorsAlike step new.call_string state
 
 -- the same where nothing was told before
 pub record Gives (step : FlowStep) (new : Stepped) (state : Label) : Type 0 where
-  pub least : new.least ≡ noted step.reasons None
+  pub least : new.least ≡ noted step.violations None
   pub targets : new.targets.items ≡ addrs_of step.gives
   pub successors : SuccessorsAlike step new.call_string state
 

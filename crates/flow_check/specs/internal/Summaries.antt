@@ -4,7 +4,7 @@ use Rattle.flow_rule.specs.declared.Label.{Label}
 use Rattle.flow_rule.specs.declared.Val.{Val}
 use Rattle.flow_rule.specs.declared.Val.TheVariants.{Public}
 use Rattle.flow_rule.specs.Rounds.{Point}
-use Rattle.flow_rule.specs.Arms.{blot}
+use Rattle.flow_rule.specs.Arms.{clobbered_by}
 use Rattle.flow_check.specs.declared.program.Program.{Program}
 use Rattle.flow_check.specs.declared.branch.BranchSite.{BranchSite}
 use Rattle.flow_check.specs.declared.summaries.Answer.{Answer}
@@ -14,7 +14,7 @@ use Rattle.flow_check.specs.internal.Programs.{flow_at, untaken_walk, taken_walk
 
 -- a state with Secret where the arms write
 abbrev pub clobbered : Program → BranchSite → Point → Label → Label
-clobbered p c x l = blot (taken_walk p c x) (blot (untaken_walk p c x) l)
+clobbered p c x l = clobbered_by (taken_walk p c x) (clobbered_by (untaken_walk p c x) l)
 
 -- nothing is written
 abbrev pub blank_label : Label
@@ -34,14 +34,14 @@ overlay _ _ = []
 abbrev pub branch_from : ℕ → List ℕ → Label → Point
 branch_from a returns l = record { pair = record { addr = a; returns = returns }; label = l }
 
--- no reason at a branch, and what its state becomes
+-- no violation at a branch, and what its state becomes
 abbrev pub OpensTo : Program → BranchSite → Point → Label → Type 0
-OpensTo p c x l = ((flow_at p c x).reasons ≡ []) × (l ≡ clobbered p c x x.label)
+OpensTo p c x l = ((flow_at p c x).violations ≡ []) × (l ≡ clobbered p c x x.label)
 
 -- what the arms of a branch come to
 abbrev pub ComesTo : Program → BranchSite → Point → Answer → Type 0
-ComesTo p c x (Open told) = ((flow_at p c x).reasons ≡ []) × (told ≡ clobbered p c x blank_label)
-ComesTo p c x Shut = (flow_at p c x).reasons ≢ []
+ComesTo p c x (Open told) = ((flow_at p c x).violations ≡ []) × (told ≡ clobbered p c x blank_label)
+ComesTo p c x Shut = (flow_at p c x).violations ≢ []
 
 -- what is kept of a branch's arms is so under its own state
 abbrev pub IsSummary : Program → Summary → Type 0

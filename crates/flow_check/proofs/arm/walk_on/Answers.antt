@@ -16,7 +16,7 @@ returns-in-None-clause-stops c = λ steps.
     let S : Point → FlowStep = base_flow p in
     let new = c.step_point-stepped.result in
     let gives = c.step_point-stepped.ensures in
-    let none : (S x).reasons ≡ [] = none_found (S x).reasons (sym gives.least ∙ none_some new.least (sym c.is_some.ensures ∙ c.if-is_some.false)) in
+    let none : (S x).violations ≡ [] = none_found (S x).violations (sym gives.least ∙ none_some new.least (sym c.is_some.ensures ∙ c.if-is_some.false)) in
     walk_leaves p c.args.join steps x c.args.tally.now c.in-Some.next c.requires.before c.in-Some.ensures.goes_on none
     (successors_none (S x).gives new.targets.items (list_of new.call_string) c.step_point-stepped.new.point.state gives.targets (gives.successors none) (sym c.first_of.ensures ∙ c.in-None.is))
 
@@ -33,7 +33,7 @@ returns-in-Some-first_of-clause-on c = λ steps.
     let new = c.step_point-stepped.result in
     let state = c.step_point-stepped.new.point.state in
     let gives = c.step_point-stepped.ensures in
-    let none : (S x).reasons ≡ [] = none_found (S x).reasons (sym gives.least ∙ none_some new.least (sym c.is_some.ensures ∙ c.if-is_some.false)) in
+    let none : (S x).violations ≡ [] = none_found (S x).violations (sym gives.least ∙ none_some new.least (sym c.is_some.ensures ∙ c.if-is_some.false)) in
     let first = successors_first (S x).gives new.targets.items (list_of new.call_string) state to gives.targets (gives.successors none) (sym c.first_of.ensures ∙ c.in-Some-first_of.is) in
     let y : Point = record { pair = record { addr = to; returns = list_of new.call_string }; label = record { core = slice_set state.core 0 (Known to); words = state.words } } in
     let reached : c.as_slice-reached.result.now ≡ plan_val insn x.pair.addr core = c.as_slice-reached.ensures.value ∙ c.reaches-reaches.ensures in

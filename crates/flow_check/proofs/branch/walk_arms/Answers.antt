@@ -2,8 +2,8 @@ use Rattle.std.proofs.Common.{◌≡◌, ◌∙◌, ap, suc, not, arith, Bool, L
 use Rattle.mod_layout.specs.Table.{holds}
 use Rattle.flow_rule.specs.declared.Label.{Label}
 use Rattle.flow_rule.specs.declared.Reason.TheVariants.{Arm as ArmInsn}
-use Rattle.flow_rule.specs.Reasons.{because_if}
-use Rattle.flow_rule.specs.Rounds.{Found, Point}
+use Rattle.flow_rule.specs.Violations.{violation_if}
+use Rattle.flow_rule.specs.Rounds.{RuleViolation, Point}
 use Rattle.flow_check.specs.internal.Violations.{noted}
 use Rattle.flow_check.specs.internal.Arms.{untold, tally_told}
 use Rattle.flow_check.specs.internal.Points.{point_at}
@@ -27,7 +27,7 @@ returns c =
     c.walk-first.ensures ∙ ap (λ y. tally_told (arm_walk p b.arm.join (suc b.arm.join) y) (untold l0)) c.first_arm-start.ensures in
     let second : r1 ≡ tally_told w1 (untold l1) =
     c.walk-second.ensures ∙ ap (λ y. tally_told (arm_walk p b.arm.join (suc b.arm.join) y) (untold l1)) c.second_arm-start.ensures in
-    let apart : Bool → List Found = λ h. because_if (not h) x.pair.addr ArmInsn b.arm.join in
+    let apart : Bool → List RuleViolation = λ h. violation_if (not h) x.pair.addr ArmInsn b.arm.join in
     record {
       least =
           site_least l0 l1 w0 w1 r0 r1 first c.take_arm.ensures.told second x.pair.addr b.arm.cycles

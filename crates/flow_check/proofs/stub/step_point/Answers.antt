@@ -13,7 +13,7 @@ returns c =
     let step : FlowStep = base_flow p (point_at x) in
     let told : Tells step c.new-stepped.result c.step_base.new.stepped c.step_base.new.state =
     subst (λ r. Tells (base_flow p (point_of x.addr r x.state)) c.new-stepped.result c.step_base.new.stepped c.step_base.new.state) c.new-stepped.ensures.call_string c.step_base.ensures in record {
-      least = told.least ∙ ap (noted step.reasons) c.new-stepped.ensures.least;
+      least = told.least ∙ ap (noted step.violations) c.new-stepped.ensures.least;
       targets = told.targets ∙ ap (λ t. t ++ addrs_of step.gives) c.new-stepped.ensures.targets;
       successors = told.successors;
     }

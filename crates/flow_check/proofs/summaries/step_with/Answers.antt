@@ -11,7 +11,7 @@ use Rattle.flow_check.proofs.summaries.step_with.Goals as goal
 pub returns-in-Open-clause-calm : goal.returns-in-Open-clause-calm
 returns-in-Open-clause-calm c = λ _.
     let x : Point = point_at c.args.point.now in
-    ap (λ s. s.reasons) (by_site c.args.program.now x c.site_of.result c.in-Some.site c.site_of.ensures c.in-Some.is) ∙ (c.in_ok-apply-in-Some.ensures.open c.in-Open.is x.pair.returns).0
+    ap (λ s. s.violations) (by_site c.args.program.now x c.site_of.result c.in-Some.site c.site_of.ensures c.in-Some.is) ∙ (c.in_ok-apply-in-Some.ensures.open c.in-Open.is x.pair.returns).0
 
 pub returns-in-Open-clause-targets : goal.returns-in-Open-clause-targets
 returns-in-Open-clause-targets c = λ _.
@@ -35,12 +35,12 @@ returns-in-Shut-clause-stirred c = λ _ _.
 pub returns-in-None-clause-calm : goal.returns-in-None-clause-calm
 returns-in-None-clause-calm c = λ none.
     let x : Point = point_at c.args.point.now in
-    ap (λ s. s.reasons) (by_none c.args.program.now x c.site_of.result c.site_of.ensures c.in-None.is) ∙ none_found (base_flow c.args.program.now x).reasons (sym c.step_point.ensures.least ∙ none)
+    ap (λ s. s.violations) (by_none c.args.program.now x c.site_of.result c.site_of.ensures c.in-None.is) ∙ none_found (base_flow c.args.program.now x).violations (sym c.step_point.ensures.least ∙ none)
 
 pub returns-in-None-clause-stirred : goal.returns-in-None-clause-stirred
 returns-in-None-clause-stirred c = λ violation some.
     let step = base_flow c.args.program.now (point_at c.args.point.now) in
-    ap given_by (by_none c.args.program.now (point_at c.args.point.now) c.site_of.result c.site_of.ensures c.in-None.is) ∙ some_found step.reasons violation (sym c.step_point.ensures.least ∙ some) step refl
+    ap given_by (by_none c.args.program.now (point_at c.args.point.now) c.site_of.result c.site_of.ensures c.in-None.is) ∙ some_found step.violations violation (sym c.step_point.ensures.least ∙ some) step refl
 
 pub returns-in-None-clause-targets : goal.returns-in-None-clause-targets
 returns-in-None-clause-targets c = λ _.

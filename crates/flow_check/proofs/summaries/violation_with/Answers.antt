@@ -8,12 +8,12 @@ use Rattle.flow_check.proofs.summaries.violation_with.Goals as goal
 pub returns-in-Some : goal.returns-in-Some
 returns-in-Some c =
     let site = by_site c.args.program.now (point_at c.args.point.now) c.site_of.result c.in-Some.site c.site_of.ensures c.in-Some.is in
-    c.violation_of_arms.ensures ∙ ap (λ s. noted s.reasons c.args.least) (sym site)
+    c.violation_of_arms.ensures ∙ ap (λ s. noted s.violations c.args.least) (sym site)
 
 pub returns-in-None : goal.returns-in-None
 returns-in-None c =
     let p = c.args.program.now in
     let point = c.args.point.now in
     let none = by_none p (point_at point) c.site_of.result c.site_of.ensures c.in-None.is in
-    c.step_base.ensures.least ∙ ap (λ r. noted (base_flow p (point_of point.addr r point.state)).reasons c.args.least) c.new-stepped.ensures.call_string
-    ∙ ap (λ s. noted s.reasons c.args.least) (sym none)
+    c.step_base.ensures.least ∙ ap (λ r. noted (base_flow p (point_of point.addr r point.state)).violations c.args.least) c.new-stepped.ensures.call_string
+    ∙ ap (λ s. noted s.violations c.args.least) (sym none)

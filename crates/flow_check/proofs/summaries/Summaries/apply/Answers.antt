@@ -13,7 +13,7 @@ returns-in-Some-answer-clause-open c = λ opened returns.
 
 pub returns-in-Some-answer-clause-shut : goal.returns-in-Some-answer-clause-shut
 returns-in-Some-answer-clause-shut c = λ shut returns.
-    subst (λ l. (flow_at c.args.program.now c.args.site.now (branch_from c.args.pc returns l)).reasons ≢ []) (c.in_default.ensures.silent refl)
+    subst (λ l. (flow_at c.args.program.now c.args.site.now (branch_from c.args.pc returns l)).violations ≢ []) (c.in_default.ensures.silent refl)
     (c.answer.ensures.shut (c.in-Some-answer.is ∙ ap Some shut) c.args.program.now returns (returns-in-Some-answer-clause-summaries c))
 
 pub returns-clause-summaries : goal.returns-clause-summaries
