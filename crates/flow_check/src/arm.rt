@@ -1,4 +1,4 @@
-//! An arm of a secret branch, walked from its start to the join.
+//! An arm of a secret branch, walked from its start to the join, its merge point.
 
 ghost use Rattle.std.specs.Prelude.{◌≡◌, ◌≢◌, ◌≤◌, ◌<◌, ◌+◌, suc, ℕ, Err, IfOk, IfErr, slice_get};
 ghost use Rattle.flow_check.specs.internal.Arms.{untold, told_insn, tally_told};

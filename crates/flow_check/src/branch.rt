@@ -1,4 +1,4 @@
-//! Secret branches whose arms meet again in equal times.
+//! Secret branches whose arms meet again, at a join (a merge point), in equal times.
 
 ghost use Rattle.std.specs.Prelude.{◌≡◌, ◌==◌, [], true, find};
 ghost use Rattle.sm_words.specs.Words.{kept, add16};

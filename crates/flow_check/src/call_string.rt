@@ -1,4 +1,4 @@
-//! Lists of at most eight return addresses.
+//! Call strings: lists of at most eight return addresses.
 
 ghost use Rattle.std.specs.Prelude.{◌≡◌, ◌≤◌, ◌<◌, ◌++◌, ◌∷◌, [], length, true, nat_eq, nat_lt, not};
 ghost use Rattle.std.specs.Cmp.Lexicographic.{pointwise};

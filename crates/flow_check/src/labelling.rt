@@ -1,4 +1,4 @@
-//! The labelling: the state of each program point, and which of them changed.
+//! The labelling: the abstract state of each program point, and which of them changed.
 
 ghost use Rattle.std.specs.Prelude.{◌≡◌, ◌≤◌, ◌<◌, ◌+◌, ◌*◌, ◌++◌, ◌∷◌, [], length, drop, true, false, ℕ};
 ghost use Rattle.std.specs.Prelude.{List, Bool, IfSome, IfOk, Some, None, slice_get, slice_set};

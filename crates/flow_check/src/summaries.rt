@@ -1,6 +1,6 @@
-//! What is known of the arms of branches. Values rise from Known to Public and to Secret alone, and what the arms of a
-//! branch do hangs on the values that they need: so one walk under a state with little in it serves
-//! all states with more.
+//! Summaries: what is known of the arms of branches. Values rise from Known to Public and to Secret alone, and what the
+//! arms of a branch do hangs on the values that they need: so one walk under a state with little in it serves all
+//! states with more.
 
 ghost use Rattle.std.specs.Prelude.{◌≡◌, ◌≢◌, ◌≤◌, ◌<◌, ◌%◌, ℕ, List, IfSome, IfOk, Some};
 ghost use Rattle.std.specs.Prelude.{None, true, slice_get, All, []};

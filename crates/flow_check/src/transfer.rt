@@ -1,4 +1,4 @@
-//! What an instruction does to what is known.
+//! The transfer functions: what an instruction does to an abstract state.
 
 ghost use Rattle.std.specs.Prelude.{◌≡◌, ◌==◌, [], ◌∷◌, true, if◌then◌else◌};
 ghost use Rattle.sm_words.specs.Sums.{low, one_if};

@@ -1,4 +1,4 @@
-//! The worklist: which program points changed in the last iteration, and what they give.
+//! The worklist: which program points changed in the last iteration, and what they give, until the fixpoint.
 
 ghost use Rattle.std.specs.Prelude.{◌≡◌, ◌≤◌, ◌<◌, ◌∷◌, List, length, true, false, IfOk};
 ghost use Rattle.flow_rule.specs.Rounds.{join_all, given_points};

@@ -1,4 +1,4 @@
--- Secret branches whose arms meet again in equal times.
+-- Secret branches whose arms meet again, at a join (a merge point), in equal times.
 use Rattle.arm_balance.specs.declared.Arm.{Arm}
 use Rattle.arm_balance.specs.Met.{met}
 use Rattle.arm_balance.specs.Balance.{arm_on}

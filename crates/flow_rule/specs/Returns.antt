@@ -1,4 +1,4 @@
--- The return addresses of a pair, the newest last.
+-- Call strings: the return addresses of a pair, the newest last.
 use Rattle.std.specs.Prelude.{ℕ, ◌-◌, ◌*◌, List, [], ◌∷◌, ◌++◌, length, take, slice_index, ◌==◌, nat_lt, nat_le, if◌then◌else◌, Bool, false, ◌&&◌, not}
 use Rattle.sm_words.specs.Words.{nth, add16}
 use Rattle.insn_decode.specs.Code.{length_of}

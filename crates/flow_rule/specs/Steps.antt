@@ -1,4 +1,4 @@
--- One instruction's step at a pair: its violations, and the pairs and labels that it gives.
+-- The transfer function at a program point: an instruction's violations, and the pairs and labels that it gives.
 use Rattle.std.specs.Prelude.{ℕ, List, [], ◌++◌, map, ◌==◌, if◌then◌else◌, Option, Some, None}
 use Rattle.sm_words.specs.Words.{word_at}
 use Rattle.insn_decode.specs.declared.insn.Insn.{Insn}

@@ -1,4 +1,4 @@
--- The start of the labelling, and what decides a verdict.
+-- The start of the labelling, and what decides a verdict: the violations at the fixpoint.
 use Rattle.flow_rule.specs.declared.Verdict.{Verdict}
 use Rattle.flow_rule.specs.declared.Verdict.TheVariants.{Yes, No}
 use Rattle.std.specs.Prelude.{◌≡◌, ◌<◌, ◌≤◌, ◌⊎◌, ℕ, ◌+◌, ◌*◌, List, [], ◌∷◌, length, map, replicate, slice_set, if◌then◌else◌}
