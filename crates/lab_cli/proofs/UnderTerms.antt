@@ -16,8 +16,8 @@ use Rattle.cli_calls.specs.Words.{Text}
 use Rattle.cli_calls.proofs.Outcomes.{one_outcome}
 use Rattle.cli_calls.proofs.Sound.{Sound, IfSound, if_none, if_map}
 use Rattle.lab_cli.specs.PublicWords.{not_data, on_data}
-use Rattle.lab_cli.specs.UnderTerms.{Judging, arms_in, told_needs, judged_by, judged_command, judged_in, judged_of}
-use Rattle.lab_cli.specs.internal.ReleasedCommand.{AreArmsOf}
+use Rattle.lab_cli.specs.UnderTerms.{Judging, arms_in, told_needs, judged_by, judged_command, judged_in, read_judged}
+use Rattle.lab_cli.specs.internal.UnderTerms.{AreArmsOf}
 
 -- an address at which no word stands comes to a no
 some_told : (o : Option ℕ) (outcome : Outcome) → (outcome ≡ nothing → ⊥) → on_data o outcome ≡ nothing → ⊥
@@ -53,7 +53,7 @@ module _ (judging : Judging) where
   sound_judged some name id terms arms map (an_image value ∷ held ∷ more) h e = h.1.0.is
   sound_judged some name id terms arms map (held ∷ second ∷ more) h e = h.0.is
 
-  pub of_judged : IsSomething → (values : List Text) → IfSound (judged_of judging values)
+  pub of_judged : IsSomething → (values : List Text) → IfSound (read_judged judging values)
   of_judged some (name ∷ id ∷ terms ∷ arms ∷ []) =
       if_map (judged_in judging name terms (file_named arms)) (id_of id)
       (λ own. sound_judged some name own terms (file_named arms))

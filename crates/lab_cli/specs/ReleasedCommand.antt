@@ -3,7 +3,7 @@ use Rattle.std.specs.Prelude.{ℕ, List, Option}
 use Rattle.cli_calls.specs.Command.{Command, judges}
 use Rattle.cli_calls.specs.Offers.{told_by}
 use Rattle.cli_calls.specs.Words.{Text}
-use Rattle.lab_cli.specs.UnderTerms.{Judging, judged_command, judged_of}
+use Rattle.lab_cli.specs.UnderTerms.{Judging, judged_command, read_judged}
 
 abbrev pub judged_under : Judging
 judged_under terms owner text arms = judges (told_by terms) owner text arms
@@ -12,4 +12,4 @@ abbrev pub released_command : Text → ℕ → Text → Option Text → Command
 released_command name id terms arms = judged_command judged_under name id terms arms
 
 abbrev pub read_released : List Text → Option Command
-read_released words = judged_of judged_under words
+read_released words = read_judged judged_under words

@@ -50,7 +50,7 @@ judged_command judging name id terms arms =
 abbrev pub judged_in : Judging → Text → Text → Option Text → ℕ → Command
 judged_in judging name terms arms id = judged_command judging name id terms arms
 
-abbrev pub judged_of : Judging → List Text → Option Command
-judged_of judging (name ∷ id ∷ terms ∷ arms ∷ []) =
+abbrev pub read_judged : Judging → List Text → Option Command
+read_judged judging (name ∷ id ∷ terms ∷ arms ∷ []) =
     option_map (judged_in judging name terms (file_named arms)) (id_of id)
-judged_of judging _ = None
+read_judged judging _ = None

@@ -1,4 +1,3 @@
-pub mod ReleasedCommand
+pub mod UnderTerms
 pub mod SweepCommand
-pub mod TermsCommand
 pub mod CommandLine

@@ -6,10 +6,11 @@ ghost use Rattle.lab_cli.specs.CommandLine.{lab_commands};
 ghost use Rattle.lab_cli.specs.internal.CommandLine.{lab_asks, IsLabBounded};
 
 use crate::map::MapText;
-use crate::released::{self, ReleasedCommand};
+use crate::released::Released;
 use crate::steps::Steps;
 use crate::sweep::SweepCommand;
-use crate::terms::{self, TermsCommand};
+use crate::terms::OfferedTerms;
+use crate::under_terms::UnderTerms;
 use cli_calls::{Answering, ImageRun, ObjectsCommand, read};
 use cli_files::{Refused, Status};
 use sm_io::{Files, Sink};
@@ -19,10 +20,10 @@ use std::alloc::{AllocError, Global};
 #[derive(Drop)]
 pub enum LabCommand<'a> {
     Map(ObjectsCommand<'a, MapText>),
-    Released(ReleasedCommand<'a>),
+    Released(UnderTerms<'a, Released>),
     Sweep(SweepCommand<'a>),
     Steps(ImageRun<'a, Steps>),
-    Terms(TermsCommand<'a>),
+    Terms(UnderTerms<'a, OfferedTerms>),
 }
 
 /// The command that the words are.
@@ -53,13 +54,13 @@ fn command_by<'a>(
     if name == "map" {
         Ok(read::<ObjectsCommand<MapText>>(alloc, "map", words, 2, 65)?.map(LabCommand::Map))
     } else if name == "released" {
-        Ok(released::read(alloc, words)?.map(LabCommand::Released))
+        Ok(read::<UnderTerms<Released>>(alloc, "released", words, 4, 4)?.map(LabCommand::Released))
     } else if name == "sweep" {
         Ok(read::<SweepCommand>(alloc, "sweep", words, 6, 6)?.map(LabCommand::Sweep))
     } else if name == "steps" {
         Ok(read::<ImageRun<Steps>>(alloc, "steps", words, 3, 3)?.map(LabCommand::Steps))
     } else if name == "terms" {
-        Ok(terms::read(alloc, words)?.map(LabCommand::Terms))
+        Ok(read::<UnderTerms<OfferedTerms>>(alloc, "terms", words, 4, 4)?.map(LabCommand::Terms))
     } else {
         Ok(None)
     }

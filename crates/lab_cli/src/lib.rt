@@ -9,5 +9,6 @@ mod steps;
 mod sweep;
 mod terms;
 mod top;
+mod under_terms;
 
 pub use top::serve;

@@ -1,89 +1,38 @@
 //! `terms IMAGE ID TERMS ARMS`: of the terms that an owner would grant, those under which a module is judged yes.
-ghost use Rattle.std.specs.Prelude.{◌≡◌, ◌++◌, ◌&&◌, ◌<◌, true, [], ◌∷◌, if◌then◌else◌, IfOk, OnOk, nat_lt, length, map, drop, option_map, option_and_then};
+ghost use Rattle.std.specs.Prelude.{◌≡◌, ◌++◌, ◌&&◌, ◌<◌, true, [], ◌∷◌, if◌then◌else◌, IfOk, OnOk, nat_lt, length};
 ghost use Rattle.std.specs.List.{list_any};
 ghost use Rattle.mod_layout.specs.Tables.{IsModule};
 ghost use Rattle.written_machine.specs.Peers.{section};
 ghost use Rattle.sm_io.specs.Sink.{Took, CutOff};
-ghost use Rattle.cli_calls.specs.Command.{IsOffer, offer_answer};
+ghost use Rattle.cli_calls.specs.Command.{IsOffer, offer_answer, offers};
 ghost use Rattle.cli_calls.specs.Offers as spec;
 ghost use Rattle.cli_calls.specs.Runs.{EndsAs};
-ghost use Rattle.cli_calls.specs.Words.{texts, values_within};
-ghost use Rattle.lab_cli.specs.TermsCommand.{read_offer};
-ghost use Rattle.lab_cli.specs.internal.TermsCommand.{offer_asked};
 
-use crate::public_words::{not_data, put_not_data};
-use crate::released::{Told, load_told, verdict_under};
-use cli_calls::{Answering, file_named, id_of, put_verdict, values_of};
-use cli_files::{Chosen, NO_MEMORY, Refused, Status, load_with};
+use crate::released::verdict_under;
+use crate::under_terms::{JudgedText, Told};
+use cli_calls::put_verdict;
+use cli_files::{Chosen, Status};
 use flow_check::{Arms, Verdict};
 use flow_rule::Reason;
-use sm_io::{Failed, Files, Sink, put_all};
+use sm_io::{Failed, Sink, put_all};
 use std::alloc::{AllocError, Global};
 use terms_file::{Term, Terms, terms_text};
 
-/// The arguments, with no certificates where their word is `-`.
+/// The terms that are offered.
 #[derive(Clone, Copy)]
-pub struct TermsCommand<'a> {
-    pub image: &'a str,
-    pub id: u16,
-    pub terms: &'a str,
-    pub arms: Option<&'a str>,
-}
+pub struct OfferedTerms;
 
-/// The arguments that the words after the first are.
-pub fn read<'a>(alloc: Global, words: &'a [String]) -> Result<Option<TermsCommand<'a>>, AllocError>
-    ensures { IfOk result (λ o. option_map offer_asked o ≡
-        option_and_then read_offer (values_within 4 4 (drop 1 (texts words.entry.now)))) }
-{
-    match values_of(alloc, "terms", words, 4, 4)? {
-        Some(values) => Ok(command_in(values.as_slice())),
-        None => Ok(None),
-    }
-}
+impl JudgedText for OfferedTerms {
+    ghost judging = { offers };
 
-fn command_in<'a>(values: &[&'a str]) -> Option<TermsCommand<'a>>
-    ensures { option_map offer_asked result ≡ read_offer (map (λ w. w.now) values.now) }
-{
-    if values.len() != 4 {
-        return None;
-    }
-    match id_of(values[1]) {
-        Some(id) => Some(TermsCommand {
-            image: values[0],
-            id,
-            terms: values[2],
-            arms: file_named(values[3]),
-        }),
-        None => None,
-    }
-}
-
-impl Answering for TermsCommand<'_> {
-    ghost asked = { λ c. offer_asked c };
-
-    ghost bounds = { λ _. Unit {0} };
-
-    fn answer<F: Files, O: Sink>(
-        &self,
+    fn put<O: Sink>(
         alloc: Global,
-        files: &mut F,
+        chosen: &Chosen,
+        told: &Told,
         out: &mut O,
-    ) -> Result<Status, Refused<'_>> {
-        let chosen = match load_with(alloc, self.image, self.id, files) {
-            Ok(chosen) => chosen,
-            Err(refused) => return Err(refused),
-        };
-        let told = match load_told(alloc, self.terms, self.arms, files) {
-            Ok(told) => told,
-            Err(refused) => return Err(refused),
-        };
-        if let Some(addr) = not_data(&chosen.module, told.terms.list.as_slice()) {
-            return Ok(put_not_data(out, addr));
-        }
-        match offer(alloc, &chosen, &told) {
-            Ok(offered) => Ok(put_offer(out, &offered)),
-            Err(AllocError) => Err(NO_MEMORY),
-        }
+    ) -> Result<Status, AllocError> {
+        let offered = offer(alloc, chosen, told)?;
+        Ok(put_offer(out, &offered))
     }
 }
 
