@@ -20,6 +20,7 @@ use Rattle.link_symbols.specs.Parts.{is_loaded_head}
 use Rattle.link_symbols.specs.Passes.{NumberedObject, numbered_objects, part}
 use Rattle.linker.specs.Placement.{item_at, text_of, ram_of}
 use Rattle.link_symbols.specs.Resolved.{items_of}
+use Rattle.sm_words.specs.Words.{word_at}
 use Rattle.mod_layout.specs.declared.TheConstants.{FIRST_VECTOR}
 use Rattle.mod_layout.specs.declared.Section.{Section}
 use Rattle.mod_layout.specs.Table.{Table}
@@ -46,21 +47,17 @@ common_text at size name = line (codes "common") (address_text at ∷ address_te
 abbrev pub common_line : (ℕ → ℕ) → List Item → ℕ → ℕ → List ℕ → List ℕ
 common_line address items first k name = common_text (address (first + k)) (item_at items (first + k)).size name
 
--- the word at an address
-abbrev pub memory_word : List ℕ → ℕ → ℕ
-memory_word memory a = slice_index memory a + 256 * slice_index memory (a + 1)
-
 -- `entry ADDRESS ID K NAME`: the address that the table of the module's stub has for the k-th entry
 abbrev pub entry_line : List ℕ → ℕ → ℕ → ℕ → List ℕ → List ℕ
 entry_line memory start id k name =
-    line (codes "entry") (address_text (memory_word memory (start + 2 * front_words + 2 * k)) ∷ decimal id ∷ decimal k ∷ name_shown name ∷ [])
+    line (codes "entry") (address_text (word_at (slice_index memory) (start + 2 * front_words + 2 * k)) ∷ decimal id ∷ decimal k ∷ name_shown name ∷ [])
 
 abbrev pub entry_lines : List ℕ → ℕ → PlacedModule → List ℕ
 entry_lines memory id p = numbered_text (entry_line memory p.value.text.start id) 0 p.value.entries
 
 -- `vector V ADDRESS NAME`: the word of the vector
 abbrev pub vector_line : List ℕ → VectorValue → List ℕ
-vector_line memory v = line (codes "vector") (decimal v.vector ∷ address_text (memory_word memory (FIRST_VECTOR + 2 * v.vector)) ∷ name_shown v.name ∷ [])
+vector_line memory v = line (codes "vector") (decimal v.vector ∷ address_text (word_at (slice_index memory) (FIRST_VECTOR + 2 * v.vector)) ∷ name_shown v.name ∷ [])
 
 abbrev pub kind_text : Binding → List ℕ
 kind_text binding.Local = codes "local"

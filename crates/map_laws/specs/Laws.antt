@@ -5,13 +5,13 @@ use Rattle.elf_objects.specs.declared.object.SectionHead.{SectionHead}
 use Rattle.entry_stubs.specs.Stub.{front_words}
 use Rattle.image_text.specs.Image.{Image}
 use Rattle.layout_file.specs.Values.{LayoutValue, ModuleValue, VectorValue}
+use Rattle.sm_words.specs.Words.{word_at}
 use Rattle.mod_layout.specs.Table.{holds}
 use Rattle.mod_layout.specs.declared.TheConstants.{FIRST_VECTOR}
 use Rattle.linker.specs.Numbers.{linking_of}
 use Rattle.link_symbols.specs.Passes.{NumberedObject}
 use Rattle.linker.specs.Stubs.{word_named}
 use Rattle.linker_laws.specs.Contents.{IsLinked, IsLoaded, field_span}
-use Rattle.link_map.specs.Map.{memory_word}
 use Rattle.link_map.specs.Parts.{PartValue, section_part, parts_of}
 
 -- the parts of a map
@@ -54,9 +54,9 @@ PartBytes = (layout : LayoutValue) (objects : List ObjectValue) (image : Image) 
 abbrev pub EntryWords : Type 0
 EntryWords = (layout : LayoutValue) (objects : List ObjectValue) (image : Image) → IsLinked layout objects image →
     (i k : ℕ) (m : ModuleValue) (name : List ℕ) → slice_get layout.modules i ≡ Some m → slice_get m.entries k ≡ Some name →
-    memory_word image.memory (m.text.start + 2 * front_words + 2 * k) ≡ word_named (linking_of layout objects) name
+    word_at (slice_index image.memory) (m.text.start + 2 * front_words + 2 * k) ≡ word_named (linking_of layout objects) name
 
 abbrev pub VectorLines : Type 0
 VectorLines = (layout : LayoutValue) (objects : List ObjectValue) (image : Image) → IsLinked layout objects image →
     (k : ℕ) (v : VectorValue) → slice_get layout.vectors k ≡ Some v →
-    memory_word image.memory (FIRST_VECTOR + 2 * v.vector) ≡ word_named (linking_of layout objects) v.name
+    word_at (slice_index image.memory) (FIRST_VECTOR + 2 * v.vector) ≡ word_named (linking_of layout objects) v.name
