@@ -1,4 +1,3 @@
-use Rattle.std.proofs.Common.{◌≡◌}
 use Rattle.layout_file.specs.Views.{vector_of}
 use Rattle.link_map.specs.Map.{vector_line}
 use Rattle.link_map.proofs.Steps.{flat_more, flat_end}

@@ -19,7 +19,7 @@ use Rattle.link_map.specs.declared.modules.Booted.{Booted}
 use Rattle.link_map.specs.Lines.{numbered_text}
 use Rattle.link_map.specs.Map.{map_text, map_module_line, part_line, common_line, entry_lines, vector_line, symbol_lines}
 use Rattle.link_map.specs.Modules.{PlacedModule, by_id}
-use Rattle.link_map.specs.Parts.{PartValue, parts_of}
+use Rattle.link_map.specs.Parts.{parts_of}
 use Rattle.link_map.specs.internal.Values.{booted_value}
 use Rattle.link_map.proofs.Steps.{eight}
 use Rattle.link_map.proofs.text.text_of.Goals as goal

@@ -1,4 +1,4 @@
-use Rattle.std.proofs.Common.{◌≡◌, ◌++◌, List, ℕ, ap, sym, ◌∙◌, map}
+use Rattle.std.proofs.Common.{◌++◌, List, ℕ, ap, sym, ◌∙◌}
 use Rattle.link_map.specs.Lines.{after_blanks}
 use Rattle.link_map.specs.internal.Values.{piece_text}
 use Rattle.link_map.proofs.Steps.{word_read, map_over}
