@@ -20,3 +20,6 @@ returns-in-Balance-clause-ok g c = rw c.in-Balance.is c.answer-in-Balance.ensure
 
 pub returns-in-Link-clause-ok : goal.returns-in-Link-clause-ok
 returns-in-Link-clause-ok g c = rw c.in-Link.is c.answer-in-Link.ensures.ok
+
+pub returns-in-Run-clause-ok : goal.returns-in-Run-clause-ok
+returns-in-Run-clause-ok g c = rw c.in-Run.is c.answer-in-Run.ensures.ok
