@@ -15,8 +15,7 @@ use Rattle.flow_check.specs.declared.point.Point.{Point as CodePoint}
 use Rattle.flow_check.specs.declared.labelling.Node.{Node}
 use Rattle.flow_check.specs.declared.labelling.Changed.{Changed}
 use Rattle.flow_check.specs.declared.call_string.CallString.{CallString}
-use Rattle.flow_check.specs.internal.Violations.{before, lesser, lesser_if, violation_of, noted}
-use Rattle.flow_check.specs.internal.Violations.{rule_violation, verdict_of}
+use Rattle.flow_check.specs.internal.Violations.{before, lesser, lesser_if, violation_of, noted, rule_violation, verdict_of}
 use Rattle.flow_check.specs.internal.Points.{point_at, points_of, fronts_of, list_of}
 use Rattle.flow_check.specs.internal.Labellings.{changed_points, Reached}
 use Rattle.flow_check.proofs.Violations.{noted_append}

@@ -8,16 +8,14 @@ use Rattle.mod_layout.specs.declared.Module.{Module}
 use Rattle.flow_rule.specs.Terms.{Terms}
 use Rattle.flow_rule.specs.declared.Val.{Val}
 use Rattle.flow_rule.specs.declared.Reach.{Reach}
-use Rattle.flow_rule.specs.declared.Reason.TheVariants.{SecretAtExit, DataAtExit}
+use Rattle.flow_rule.specs.declared.Reason.TheVariants.{SecretAtExit, DataAtExit, Illegal, UnknownTarget, SecretBranch}
 use Rattle.std.proofs.lemmas.Bool.Decides.{nat_tests}
 use Rattle.flow_rule.specs.declared.Val.TheVariants.{Secret}
-use Rattle.flow_rule.specs.declared.Reason.TheVariants.{Illegal, UnknownTarget, SecretBranch}
 use Rattle.flow_rule.specs.Rounds.{RuleViolation, FlowStep, Point}
 use Rattle.flow_rule.specs.Values.{is_secret, val}
 use Rattle.arm_balance.specs.Met.{text_byte}
 use Rattle.flow_rule.specs.Does.{word_no, past_val, does_val, writes_val}
-use Rattle.flow_rule.specs.Violations.{exit_violations, word_violations, reach_violations, reach_violations_by}
-use Rattle.flow_rule.specs.Violations.{violation, violation_if}
+use Rattle.flow_rule.specs.Violations.{exit_violations, word_violations, reach_violations, reach_violations_by, violation, violation_if}
 use Rattle.flow_rule.specs.Going.{goes, also, both, fails}
 use Rattle.flow_rule.specs.Steps.{step_jump, step_insn, step_of}
 use Rattle.flow_rule.specs.Stub.{shut_violations, shut_if, is_shut, is_open, word_number, step_stub, step_entries, to_entries, text_word}
