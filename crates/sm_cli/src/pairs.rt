@@ -19,7 +19,9 @@ const EQUALS: u8 = b'=';
 const VALUE_LENGTH: usize = 5;
 
 // What the rules say of them: a changed number is refused here.
-const _: () = prove!(LAST_REGISTER == 15 && REGISTER_LETTER == 114 && EQUALS == 61 && VALUE_LENGTH == 5);
+const _: () = prove!(
+    LAST_REGISTER == 15 && REGISTER_LETTER == 114 && EQUALS == 61 && VALUE_LENGTH == 5
+);
 
 /// A register by its number, which is neither PC's nor the constant generator's, and a value.
 #[derive(Clone, Copy)]

@@ -68,7 +68,9 @@ const _: () = prove!(HANDLER == 0x0500 && HANDLER_STACK == 0x0600 && LINE_VECTOR
 
 const _: () = prove!(RETI == 0x1300 && START == 0x0200 && VENDOR == 7);
 
-const _: () = prove!(TEXT.start == 0x0300 && TEXT.end == 0x0322 && DATA.start == 0x0400 && DATA.end == 0x0402);
+const _: () = prove!(
+    TEXT.start == 0x0300 && TEXT.end == 0x0322 && DATA.start == 0x0400 && DATA.end == 0x0402
+);
 
 /// The image whose module has this word as its data.
 pub fn image(alloc: Global, word: u16) -> Result<Image, AllocError>
