@@ -9,12 +9,14 @@ use Rattle.insn_decode.specs.declared.insn.TwoOp.{TwoOp}
 use Rattle.insn_decode.specs.declared.insn.TwoOp.TheVariants.{Mov, Add, Addc, Subc, Sub, Cmp, Dadd, Bit, Bic, Bis, Xor, And}
 use Rattle.insn_decode.specs.declared.insn.OneOp.{OneOp}
 use Rattle.insn_decode.specs.declared.insn.OneOp.TheVariants.{Rrc, Swpb, Rra, Sxt, Push, Call}
+use Rattle.insn_decode.specs.declared.insn.Condition.{Condition}
+use Rattle.insn_decode.specs.declared.insn.Condition.TheVariants.{NotZero, Zero, NoCarry, Carry, Negative, GreaterOrEqual, Less, Always}
 use Rattle.insn_decode.specs.declared.insn.UnitName.{UnitName}
 use Rattle.insn_decode.specs.declared.insn.UnitName.TheVariants.{Unprotect, Protect, Attest, Tag, IdOf, OwnId, CallerId}
 use Rattle.insn_decode.specs.declared.insn.Operand.{Operand}
 use Rattle.insn_decode.specs.declared.insn.Operand.TheVariants.{Reg, Const, Imm, Indexed, Symbolic, Absolute, Indirect, Increment}
-use Rattle.insn_decode.specs.Code.{source_row, source_of, dest_of, two_ops, one_ops, unit_ops}
-use Rattle.insn_decode.specs.Means.{two_code, one_code, unit_code, IsPlain, Source, register, symbolic, absolute, indexed, indirect, increment, immediate, four, eight, nought, one, two, all_ones, Destination, to_register, to_symbolic, to_absolute, to_indexed}
+use Rattle.insn_decode.specs.Code.{source_row, source_of, dest_of, two_ops, one_ops, conditions, unit_ops}
+use Rattle.insn_decode.specs.Means.{two_code, one_code, condition_code, unit_code, IsPlain, Source, register, symbolic, absolute, indexed, indirect, increment, immediate, four, eight, nought, one, two, all_ones, Destination, to_register, to_symbolic, to_absolute, to_indexed}
 
 pub apart : {A : Type 0} {P : Type 0} (o : Option A) (x : A) → o ≡ None → o ≡ Some x → P
 apart o x e f = cc
@@ -143,6 +145,21 @@ one_read (suc (suc (suc zero))) op e = ap one_code (same_Some Sxt op e)
 one_read (suc (suc (suc (suc zero)))) op e = ap one_code (same_Some Push op e)
 one_read (suc (suc (suc (suc (suc zero))))) op e = ap one_code (same_Some Call op e)
 one_read (suc (suc (suc (suc (suc (suc k)))))) op e = absurd cc
+
+pub condition_found : (c : Condition) → slice_get conditions (condition_code c) ≡ Some c
+condition_found NotZero = refl
+condition_found _ = refl
+
+pub condition_read : (k : ℕ) (c : Condition) → slice_get conditions k ≡ Some c → k ≡ condition_code c
+condition_read zero c e = ap condition_code (same_Some NotZero c e)
+condition_read (suc zero) c e = ap condition_code (same_Some Zero c e)
+condition_read (suc (suc zero)) c e = ap condition_code (same_Some NoCarry c e)
+condition_read (suc (suc (suc zero))) c e = ap condition_code (same_Some Carry c e)
+condition_read (suc (suc (suc (suc zero)))) c e = ap condition_code (same_Some Negative c e)
+condition_read (suc (suc (suc (suc (suc zero))))) c e = ap condition_code (same_Some GreaterOrEqual c e)
+condition_read (suc (suc (suc (suc (suc (suc zero)))))) c e = ap condition_code (same_Some Less c e)
+condition_read (suc (suc (suc (suc (suc (suc (suc zero))))))) c e = ap condition_code (same_Some Always c e)
+condition_read (suc (suc (suc (suc (suc (suc (suc (suc k)))))))) c e = absurd cc
 
 pub unit_found : (name : UnitName) → slice_get unit_ops (unit_code name) ≡ Some name
 unit_found Unprotect = refl

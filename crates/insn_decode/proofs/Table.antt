@@ -7,13 +7,15 @@ use Rattle.insn_decode.specs.declared.insn.TwoOp.{TwoOp}
 use Rattle.insn_decode.specs.declared.insn.TwoOp.TheVariants.{Mov}
 use Rattle.insn_decode.specs.declared.insn.OneOp.{OneOp}
 use Rattle.insn_decode.specs.declared.insn.OneOp.TheVariants.{Rrc}
+use Rattle.insn_decode.specs.declared.insn.Condition.{Condition}
+use Rattle.insn_decode.specs.declared.insn.Condition.TheVariants.{NotZero}
 use Rattle.insn_decode.specs.declared.insn.UnitName.{UnitName}
 use Rattle.insn_decode.specs.declared.insn.UnitName.TheVariants.{Unprotect}
 use Rattle.insn_decode.specs.declared.insn.Operand.{Operand}
 use Rattle.insn_decode.specs.declared.insn.Insn.{Insn}
 use Rattle.insn_decode.specs.declared.insn.Insn.TheVariants.{Two, One, Jump, Reti, Unit as UnitOp}
 use Rattle.insn_decode.specs.Code.{insn_of, two_of, one_of, one_fits, two_ops, one_ops, unit_ops, offset_of, source_of, dest_of, width_of, words_of, length_of}
-use Rattle.insn_decode.specs.Means.{two_code, one_code, unit_code, Source, Means, format_one, format_two, jump, return, unit}
+use Rattle.insn_decode.specs.Means.{two_code, one_code, condition_code, unit_code, Source, Means, format_one, format_two, jump, return, unit}
 use Rattle.insn_decode.proofs.Forms.{form_two, form_jump, form_return, form_unit, form_one, form_below, form_between}
 use Rattle.insn_decode.proofs.Rows.{apart, source_found, source_read, destination_found, destination_read, two_found, two_read, one_found, one_read, unit_found, unit_read}
 
@@ -97,6 +99,10 @@ two_code_least _ = omega arith
 one_code_most : (op : OneOp) → one_code op < 6
 one_code_most Rrc = omega arith
 one_code_most _ = omega arith
+
+pub condition_code_most : (c : Condition) → condition_code c < 8
+condition_code_most NotZero = omega arith
+condition_code_most _ = omega arith
 
 unit_code_most : (name : UnitName) → unit_code name < 7
 unit_code_most Unprotect = omega arith

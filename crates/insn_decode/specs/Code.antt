@@ -11,6 +11,8 @@ use Rattle.insn_decode.specs.declared.insn.OneOp.{OneOp}
 use Rattle.insn_decode.specs.declared.insn.OneOp.TheVariants.{Rrc, Swpb, Rra, Sxt, Push, Call}
 use Rattle.insn_decode.specs.declared.insn.Operand.{Operand}
 use Rattle.insn_decode.specs.declared.insn.Operand.TheVariants.{Reg, Const, Imm, Indexed, Symbolic, Absolute, Indirect, Increment}
+use Rattle.insn_decode.specs.declared.insn.Condition.{Condition}
+use Rattle.insn_decode.specs.declared.insn.Condition.TheVariants.{NotZero, Zero, NoCarry, Carry, Negative, GreaterOrEqual, Less, Always}
 use Rattle.insn_decode.specs.declared.insn.UnitName.{UnitName}
 use Rattle.insn_decode.specs.declared.insn.UnitName.TheVariants.{Unprotect, Protect, Attest, Tag, IdOf, OwnId, CallerId}
 use Rattle.insn_decode.specs.declared.insn.Insn.{Insn}
@@ -66,6 +68,10 @@ two_ops = Mov ∷ Add ∷ Addc ∷ Subc ∷ Sub ∷ Cmp ∷ Dadd ∷ Bit ∷ Bic
 -- the operations of format II, from opcode 0 on
 abbrev pub one_ops : List OneOp
 one_ops = Rrc ∷ Swpb ∷ Rra ∷ Sxt ∷ Push ∷ Call ∷ []
+
+-- the conditions of jumps, from 0 on
+abbrev pub conditions : List Condition
+conditions = NotZero ∷ Zero ∷ NoCarry ∷ Carry ∷ Negative ∷ GreaterOrEqual ∷ Less ∷ Always ∷ []
 
 -- the unit instructions, from 0x1380 on
 abbrev pub unit_ops : List UnitName
@@ -140,6 +146,11 @@ pub record IsDecoded (insn : Insn) : Type 0 where
   pub second : ℕ
   pub third : ℕ
   pub means : insn_of first second third ≡ Some insn
+
+-- whether a jump under it is taken whatever the flags are
+abbrev pub is_always : Condition → Bool
+is_always Always = true
+is_always _ = false
 
 -- whether it is one of the unit instructions
 abbrev pub is_unit : Insn → Bool

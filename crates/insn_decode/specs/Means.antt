@@ -6,6 +6,8 @@ use Rattle.insn_decode.specs.declared.insn.OneOp.{OneOp}
 use Rattle.insn_decode.specs.declared.insn.OneOp.TheVariants.{Rrc, Swpb, Rra, Sxt, Push, Call}
 use Rattle.insn_decode.specs.declared.insn.Operand.{Operand}
 use Rattle.insn_decode.specs.declared.insn.Operand.TheVariants.{Reg, Const, Imm, Indexed, Symbolic, Absolute, Indirect, Increment}
+use Rattle.insn_decode.specs.declared.insn.Condition.{Condition}
+use Rattle.insn_decode.specs.declared.insn.Condition.TheVariants.{NotZero, Zero, NoCarry, Carry, Negative, GreaterOrEqual, Less, Always}
 use Rattle.insn_decode.specs.declared.insn.UnitName.{UnitName}
 use Rattle.insn_decode.specs.declared.insn.UnitName.TheVariants.{Unprotect, Protect, Attest, Tag, IdOf, OwnId, CallerId}
 use Rattle.insn_decode.specs.declared.insn.Insn.{Insn}
@@ -35,6 +37,17 @@ one_code Rra = 2
 one_code Sxt = 3
 one_code Push = 4
 one_code Call = 5
+
+-- bits 12 to 10 of a jump
+abbrev pub condition_code : Condition → ℕ
+condition_code NotZero = 0
+condition_code Zero = 1
+condition_code NoCarry = 2
+condition_code Carry = 3
+condition_code Negative = 4
+condition_code GreaterOrEqual = 5
+condition_code Less = 6
+condition_code Always = 7
 
 -- the number of a unit instruction: its word is 0x1380 and the number
 abbrev pub unit_code : UnitName → ℕ

@@ -1,7 +1,7 @@
 //! The instructions.
 ghost use Rattle.std.specs.Prelude.{◌≡◌, ◌<◌, slice_get, Some};
-ghost use Rattle.insn_decode.specs.Code.{words_of, length_of, unit_ops};
-ghost use Rattle.insn_decode.specs.Means.{unit_code};
+ghost use Rattle.insn_decode.specs.Code.{words_of, length_of, conditions, is_always, unit_ops};
+ghost use Rattle.insn_decode.specs.Means.{condition_code, unit_code};
 
 use sm_words::Width;
 
@@ -31,6 +31,27 @@ pub enum OneOp {
     Sxt,
     Push,
     Call,
+}
+
+/// The conditions of jumps, by their numbers from 0 on.
+#[derive(Clone, Copy, PartialEq, Eq, Debug)]
+pub enum Condition {
+    /// JNE or JNZ: Z is 0.
+    NotZero,
+    /// JEQ or JZ: Z is 1.
+    Zero,
+    /// JNC or JLO: C is 0.
+    NoCarry,
+    /// JC or JHS: C is 1.
+    Carry,
+    /// JN: N is 1.
+    Negative,
+    /// JGE: N and V are the same.
+    GreaterOrEqual,
+    /// JL: N and V are not the same.
+    Less,
+    /// JMP: whatever the flags are.
+    Always,
 }
 
 /// The unit instructions, by their words from 0x1380 on.
@@ -98,6 +119,50 @@ pub enum Insn {
     Reti,
     /// A unit instruction.
     Unit(UnitName),
+}
+
+impl Condition {
+    /// The condition of this number.
+    pub fn from_number(number: u16) -> Condition
+        requires { number < 8 }
+        ensures { slice_get conditions number ≡ Some result }
+    {
+        match number {
+            0 => Condition::NotZero,
+            1 => Condition::Zero,
+            2 => Condition::NoCarry,
+            3 => Condition::Carry,
+            4 => Condition::Negative,
+            5 => Condition::GreaterOrEqual,
+            6 => Condition::Less,
+            _ => Condition::Always,
+        }
+    }
+
+    /// Its number, 0 to 7.
+    pub fn number(self) -> u8
+        ensures exact { result ≡ condition_code self }
+        ensures most { result < 8 }
+    {
+        match self {
+            Condition::NotZero => 0,
+            Condition::Zero => 1,
+            Condition::NoCarry => 2,
+            Condition::Carry => 3,
+            Condition::Negative => 4,
+            Condition::GreaterOrEqual => 5,
+            Condition::Less => 6,
+            Condition::Always => 7,
+        }
+    }
+
+    /// Whether a jump under it is always taken.
+    #[inline(always)]
+    pub fn is_always(self) -> bool
+        ensures { result ≡ is_always self }
+    {
+        matches!(self, Condition::Always)
+    }
 }
 
 impl UnitName {

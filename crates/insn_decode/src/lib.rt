@@ -9,5 +9,5 @@ pub mod laws;
 mod text;
 
 pub use decoder::{decode, length};
-pub use insn::{Insn, OneOp, Operand, TwoOp, UnitName};
+pub use insn::{Condition, Insn, OneOp, Operand, TwoOp, UnitName};
 pub use text::show;
