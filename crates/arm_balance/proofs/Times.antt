@@ -2,7 +2,7 @@
 use Rattle.std.proofs.Common.{nat_le, subst, eq-eqb, ◌≡◌, ◌≢◌, ◌<◌, ◌≤◌, ℕ, suc, ◌+◌, ◌*◌, ◌==◌, nat_lt, cond, Bool, true, false, ◌&&◌, List, Option, Some, None, Result, Ok, Err, refl, sym, ◌∙◌, ap, arith}
 use Rattle.std.proofs.lemmas.Bool.Decides.{nat_tests}
 use Rattle.sm_words.specs.Words.{add16}
-use Rattle.insn_decode.specs.Code.{length_of, distance}
+use Rattle.insn_decode.specs.Code.{length_of, distance, is_always}
 use Rattle.insn_decode.specs.declared.insn.Insn.{Insn}
 use Rattle.insn_decode.specs.declared.insn.Insn.TheVariants.{Two, One, Jump, Reti, Unit as UnitOp}
 use Rattle.insn_decode.specs.declared.insn.OneOp.TheVariants.{Call}
@@ -55,7 +55,7 @@ ends_up o insn join pc next l e =
 insn_up : (insn : Insn) (join pc next : ℕ) → arm_next join pc (Some insn) ≡ Some next → (pc < next) × (next ≤ join)
 insn_up (Two op w s d) join pc next e = ends_up d (Two op w s d) join pc next (omega arith) e
 insn_up (One Call w a) join pc next e = absurd (let g : ⊥ = cc in g)
-insn_up (Jump c off) join pc next e = next_up ((c == 7) && nat_lt pc to && nat_le to join) pc to join next (by (c == 7) (nat_lt pc to) refl) e
+insn_up (Jump c off) join pc next e = next_up (is_always c && nat_lt pc to && nat_le to join) pc to join next (by (is_always c) (nat_lt pc to) refl) e
   where
     to : ℕ
     to = add16 (add16 pc 2) (distance off)

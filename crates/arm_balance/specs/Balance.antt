@@ -1,7 +1,7 @@
 -- The arms of a branch: which instructions may stand there, and how long they take.
 use Rattle.std.specs.Prelude.{ℕ, zero, suc, ◌+◌, ◌*◌, ◌==◌, nat_lt, nat_le, if◌then◌else◌, Bool, true, ◌&&◌, not, List, Option, Some, None, Result, Ok, Err}
 use Rattle.sm_words.specs.Words.{add16}
-use Rattle.insn_decode.specs.Code.{length_of, distance}
+use Rattle.insn_decode.specs.Code.{length_of, distance, is_always}
 use Rattle.insn_decode.specs.declared.insn.Insn.{Insn}
 use Rattle.insn_decode.specs.declared.insn.Insn.TheVariants.{Two, One, Jump}
 use Rattle.insn_decode.specs.declared.insn.OneOp.TheVariants.{Call}
@@ -27,8 +27,8 @@ arm_next join pc None = None
 arm_next join pc (Some (Two op w s d)) = ends_by d (Two op w s d) join pc
 arm_next join pc (Some (One Call w a)) = None
 arm_next join pc (Some (One op w a)) = ends_by a (One op w a) join pc
-arm_next join pc (Some (Jump cond_no off)) =
-    let to = add16 (add16 pc 2) (distance off) in if (cond_no == 7) && nat_lt pc to && nat_le to join then Some to else None
+arm_next join pc (Some (Jump condition off)) =
+    let to = add16 (add16 pc 2) (distance off) in if is_always condition && nat_lt pc to && nat_le to join then Some to else None
 arm_next join pc (Some insn) = None
 
 -- where the arm goes on from an address of the text below the join

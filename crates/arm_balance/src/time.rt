@@ -12,9 +12,6 @@ use cycle_table::cycles;
 use insn_decode::{Insn, OneOp, Operand};
 use mod_layout::Section;
 
-/// The condition of a jump that is always taken.
-const ALWAYS: u8 = 7;
-
 /// The address so many words past another, modulo 65,536.
 fn past(next: u16, offset: i16) -> u16
     ensures { result ≡ add16 next (distance offset) }
@@ -72,9 +69,9 @@ pub fn arm_next(insn: &Insn, pc: u16, join: u16) -> Option<u16>
                 up_to(pc, insn.length(), join)
             }
         }
-        Insn::Jump { cond, offset } => {
+        Insn::Jump { condition, offset } => {
             let to = target(pc, offset);
-            (cond == ALWAYS && pc < to && to <= join).then_some(to)
+            (condition.is_always() && pc < to && to <= join).then_some(to)
         }
         Insn::Reti | Insn::Unit(_) => None,
     }

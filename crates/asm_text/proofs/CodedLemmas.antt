@@ -29,7 +29,7 @@ dest_coded (to_indexed r x p) low = plain_register r p low
 means_coded : {w0 w1 w2 n : ℕ} {insn : Insn} → Means w0 w1 w2 insn n → is_placeless insn ≡ true → is_coded insn ≡ true
 means_coded {w0} (format_one op s d c source dest) h = and_from (is_source s) (is_dest d) (source_coded source (omega arith)) (dest_coded dest (omega arith))
 means_coded {w0} (format_two op a c k source fits) h = and_from (is_source a) _ (source_coded source (omega arith)) fits
-means_coded (jump c) h = absurd cc
+means_coded (jump condition c k) h = absurd cc
 means_coded (return c) h = refl
 means_coded (unit name c) h = refl
 

@@ -80,7 +80,7 @@ means_back {w0} {w1} {w2} (format_two op a c k source fits) h =
     let rest = one_extension a w1 w2 b.words in
     let size : 1 + words_in a ≡ suc (words_in a) = omega arith in
     ap (λ w. w ∷ extension a) first ∙ (ap (λ ws. w0 ∷ ws) rest ∙ ap (λ n. take n (w0 ∷ w1 ∷ w2 ∷ [])) (sym size))
-means_back (jump c) h = absurd cc
+means_back (jump condition c k) h = absurd cc
 means_back {w0} (return c) h = ap (λ w. w ∷ []) (sym c)
 means_back (unit name c) h = ap (λ w. w ∷ []) (sym c)
 

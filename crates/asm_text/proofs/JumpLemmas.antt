@@ -5,7 +5,8 @@ use Rattle.std.proofs.lemmas.Bool.Decides.{nat_tests}
 use Rattle.std.proofs.lemmas.Int.{ints}
 use Rattle.insn_decode.specs.declared.insn.Insn.TheVariants.{Jump}
 use Rattle.insn_decode.specs.Code.{offset_of}
-use Rattle.insn_decode.specs.Means.{Means, jump}
+use Rattle.insn_decode.specs.Means.{condition_code, Means, jump}
+use Rattle.insn_decode.proofs.Table.{condition_code_most}
 use Rattle.asm_text.specs.Emission.{is_near, offset_bits, jump_word}
 use Rattle.asm_text.specs.Jumps.{target_of}
 use Rattle.asm_text.specs.Laws.{JumpsAreMeant, JumpsLead}
@@ -33,12 +34,11 @@ bits_mean (negsuc n) near =
     ap (λ b. cond b (pos (1023 - n)) (pos (1023 - n) -ℤ pos 1024)) high ∙ back n low
 
 pub jumps_are_meant : JumpsAreMeant
-jumps_are_meant c w1 w2 offset low near =
-    let b = has_bits c (offset_bits offset) low (bits_low offset near) in
+jumps_are_meant c w1 w2 offset near =
+    let b = has_bits (condition_code c) (offset_bits offset) (condition_code_most c) (bits_low offset near) in
     let w = jump_word c offset in
     subst (λ o. Means w w1 w2 (Jump c o) 1) (bits_mean offset near)
-    (subst (λ (n : ℕ). Means w w1 w2 (Jump c (offset_of n)) 1) b.bits_are
-    (subst (λ (n : ℕ). Means w w1 w2 (Jump n (offset_of (w % 1024))) 1) b.cond_is (jump b.form)))
+    (subst (λ (n : ℕ). Means w w1 w2 (Jump c (offset_of n)) 1) b.bits_are (jump c b.form b.cond_is))
 
 minus : (k : ℕ) → (pos 0 -ℤ pos (suc k)) ≡ negsuc k
 minus k = omega (arith, ints)

@@ -105,8 +105,8 @@ statement_more t (Word (Name name)) names sections h =
 statement_more t (Word (Number x)) names sections h = record { names = names; sections = sections; least = omega arith; least_sections = omega arith; most = omega arith; known = tt; named = tt }
 statement_more t (Space size) names sections h = record { names = names; sections = sections; least = omega arith; least_sections = omega arith; most = omega arith; known = h.0; named = tt }
 statement_more t (Jump c target) names sections h =
-    let n = is_noted t.names target names h.1 in
-    record { names = n.table; sections = sections; least = n.least; least_sections = omega arith; most = let m = n.most in omega arith; known = (h.0, n.low); named = tt }
+    let n = is_noted t.names target names h in
+    record { names = n.table; sections = sections; least = n.least; least_sections = omega arith; most = let m = n.most in omega arith; known = n.low; named = tt }
 statement_more t (Code insn a b) names sections h =
     let one = option_noted t.names a names h.0 in
     let two = option_noted (noted_option t.names a) b one.table h.1 in
@@ -130,7 +130,6 @@ known_more : (a b : ℕ) (s : Statement ℕ) → a ≤ b → IsKnown a s → IsK
 known_more a b (Section name kind) most h = tt
 known_more a b (Word (Number n)) most h = tt
 known_more a b (Space size) most h = h
-known_more a b (Jump c target) most h = (h.0, (let low = h.1 in omega arith))
 known_more a b (Code insn x y) most h = (below_more a b x most h.0, below_more a b y most h.1)
 known_more a b _ most h = omega arith
 

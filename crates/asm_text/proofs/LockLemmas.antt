@@ -6,6 +6,7 @@ use Rattle.std.proofs.lemmas.Bool.Decides.{nat_tests}
 use Rattle.std.proofs.lemmas.List.{length-map, map-append, map-set, get_or-map}
 use Rattle.std.proofs.lemmas.List.Elements.{All-push, All-set}
 use Rattle.std.proofs.lemmas.Option.{slice_get_within, get_or_from_slice_get, slice_get-get_or}
+use Rattle.insn_decode.specs.declared.insn.Condition.{Condition}
 use Rattle.insn_decode.specs.declared.insn.Insn.{Insn}
 use Rattle.insn_decode.specs.declared.insn.Insn.TheVariants.{Two, One}
 use Rattle.insn_decode.specs.declared.insn.Operand.{Operand}
@@ -109,19 +110,19 @@ code_size (One op w a) =
     omega (arith, length-append (word_bytes (encoded_first (One op w a))) (flat_map word_bytes (extension a)))
 code_size _ = refl
 
-two_bytes : (n cond' : ℕ) (offset : ℤ) (bytes : List ℕ) → jump_over n cond' offset ≡ Ok bytes → length bytes ≡ 2
-two_bytes n cond' offset bytes e = by (is_near offset) e
+two_bytes : (n : ℕ) (cn : Condition) (offset : ℤ) (bytes : List ℕ) → jump_over n cn offset ≡ Ok bytes → length bytes ≡ 2
+two_bytes n cn offset bytes e = by (is_near offset) e
   where
-    by : (c : Bool) → cond c (Ok (word_bytes (jump_word cond' offset))) (Err (Far n offset)) ≡ Ok bytes → length bytes ≡ 2
-    by true e = let same : word_bytes (jump_word cond' offset) ≡ bytes = cc in ap length (sym same)
+    by : (c : Bool) → cond c (Ok (word_bytes (jump_word cn offset))) (Err (Far n offset)) ≡ Ok bytes → length bytes ≡ 2
+    by true e = let same : word_bytes (jump_word cn offset) ≡ bytes = cc in ap length (sym same)
     by false e = absurd cc
 
-pub jump_size : (n section here cond' : ℕ) (spot : Option Spot) (bytes : List ℕ) → jump_bytes n section here cond' spot ≡ Ok bytes → length bytes ≡ 2
-jump_size n section here cond' None bytes e = absurd cc
-jump_size n section here cond' (Some spot) bytes e = by (nat_eq spot.section section) e
+pub jump_size : (n section here : ℕ) (cn : Condition) (spot : Option Spot) (bytes : List ℕ) → jump_bytes n section here cn spot ≡ Ok bytes → length bytes ≡ 2
+jump_size n section here cn None bytes e = absurd cc
+jump_size n section here cn (Some spot) bytes e = by (nat_eq spot.section section) e
   where
-    by : (c : Bool) → cond c (jump_over n cond' (reach here spot.offset)) (Err (NoLabel n)) ≡ Ok bytes → length bytes ≡ 2
-    by true e = two_bytes n cond' (reach here spot.offset) bytes e
+    by : (c : Bool) → cond c (jump_over n cn (reach here spot.offset)) (Err (NoLabel n)) ≡ Ok bytes → length bytes ≡ 2
+    by true e = two_bytes n cn (reach here spot.offset) bytes e
     by false e = absurd cc
 
 pub bytes_size : (m : Meanings) (n section here : ℕ) (kind : SectionKind) (s : Statement ℕ) (bytes : List ℕ) → kind_takes kind s ≡ true → statement_bytes m n section here s ≡ Ok bytes → length bytes ≡ kept_size kind (statement_size s)

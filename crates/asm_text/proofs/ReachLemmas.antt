@@ -7,6 +7,7 @@ use Rattle.std.proofs.lemmas.List.Elements.{Contains-append_left, Contains-push}
 use Rattle.std.proofs.lemmas.List.Quantifiers.{position-Some}
 use Rattle.std.proofs.lemmas.List.{append-nil, length-map, length-set, get_or-map, get_or-set_same, get_or-set_other, take_at, drop_at}
 use Rattle.std.proofs.lemmas.Option.{slice_get_within, get_or_from_slice_get, slice_get-get_or}
+use Rattle.insn_decode.specs.declared.insn.Condition.{Condition}
 use Rattle.insn_decode.specs.declared.insn.Insn.{Insn}
 use Rattle.asm_text.specs.declared.placing.Head.{Head}
 use Rattle.asm_text.specs.declared.placing.Spot.{Spot}
@@ -192,26 +193,26 @@ at_line m n (suc number) e f p q (x ∷ rest) s a even are j k is =
 -- ---- a jump
 
 -- a jump whose word is written
-pub record IsJump (m : Meanings) (section here cond' target : ℕ) (bytes : List ℕ) : Type 0 where
+pub record IsJump (m : Meanings) (section here : ℕ) (cn : Condition) (target : ℕ) (bytes : List ℕ) : Type 0 where
   pub offset : ℕ
   pub spot : spot_of m.spots target ≡ Some (record { section = section; offset = offset })
   pub near : is_near (reach here offset) ≡ true
-  pub are : bytes ≡ word_bytes (jump_word cond' (reach here offset))
+  pub are : bytes ≡ word_bytes (jump_word cn (reach here offset))
 
-is_jump : (m : Meanings) (n section here cond' target : ℕ) (bytes : List ℕ) → jump_bytes n section here cond' (spot_of m.spots target) ≡ Ok bytes → IsJump m section here cond' target bytes
-is_jump m n section here cond' target bytes k = by (spot_of m.spots target) refl k
+is_jump : (m : Meanings) (n section here : ℕ) (cn : Condition) (target : ℕ) (bytes : List ℕ) → jump_bytes n section here cn (spot_of m.spots target) ≡ Ok bytes → IsJump m section here cn target bytes
+is_jump m n section here cn target bytes k = by (spot_of m.spots target) refl k
   where
     by_near : (spot : Spot) (c : Bool) → spot_of m.spots target ≡ Some spot → spot.section ≡ section → is_near (reach here spot.offset) ≡ c
-        → cond c (Ok (word_bytes (jump_word cond' (reach here spot.offset)))) (Err (Far n (reach here spot.offset))) ≡ Ok bytes → IsJump m section here cond' target bytes
+        → cond c (Ok (word_bytes (jump_word cn (reach here spot.offset)))) (Err (Far n (reach here spot.offset))) ≡ Ok bytes → IsJump m section here cn target bytes
     by_near spot true is same near j = record { offset = spot.offset; spot = is ∙ ap Some (λ i. record { section = same i; offset = spot.offset }); near = near; are = sym (ok_is _ bytes j) }
     by_near spot false is same near j = absurd cc
 
     by_section : (spot : Spot) (c : Bool) → spot_of m.spots target ≡ Some spot → nat_eq spot.section section ≡ c
-        → cond c (jump_over n cond' (reach here spot.offset)) (Err (NoLabel n)) ≡ Ok bytes → IsJump m section here cond' target bytes
+        → cond c (jump_over n cn (reach here spot.offset)) (Err (NoLabel n)) ≡ Ok bytes → IsJump m section here cn target bytes
     by_section spot true is same j = by_near spot (is_near (reach here spot.offset)) is (grind (arith, nat_tests)) refl j
     by_section spot false is same j = absurd cc
 
-    by : (o : Option Spot) → spot_of m.spots target ≡ o → jump_bytes n section here cond' o ≡ Ok bytes → IsJump m section here cond' target bytes
+    by : (o : Option Spot) → spot_of m.spots target ≡ o → jump_bytes n section here cn o ≡ Ok bytes → IsJump m section here cn target bytes
     by None is j = absurd cc
     by (Some spot) is j = by_section spot (nat_eq spot.section section) is refl j
 
@@ -226,7 +227,7 @@ word_full field CodeKind e size = refl
 word_full field DataKind e size = refl
 word_full field BssKind e size = absurd cc
 
-jump_full : (c target : ℕ) → IsFull (Jump c target)
+jump_full : (c : Condition) (target : ℕ) → IsFull (Jump c target)
 jump_full c target CodeKind e size = refl
 jump_full c target DataKind e size = absurd cc
 jump_full c target BssKind e size = absurd cc
@@ -377,9 +378,9 @@ stands_at s u a number x line j =
     let within : length line.before.heads - 1 < length line.before.heads = slice_get_within line.before.heads (length line.before.heads - 1) j.head j.last in
     record { before = line.before; placed = line.goes; last = omega arith; size = ap (option_map (λ (h : Head). h.size)) j.last }
 
-reached_by : (s : SourceRead) (u : UnitValue) (number c name : ℕ) (a : IsAccepted s u) → c < 8 → name < name_count s → IsEvenPlaced a.places → (line : IsLine (meanings s a.places) 1 number (nowhere (name_count s)) a.end s.statements (Jump c name))
+reached_by : (s : SourceRead) (u : UnitValue) (number : ℕ) (c : Condition) (name : ℕ) (a : IsAccepted s u) → name < name_count s → IsEvenPlaced a.places → (line : IsLine (meanings s a.places) 1 number (nowhere (name_count s)) a.end s.statements (Jump c name))
     (b : HasBytes (meanings s a.places) line.line line.before a.end (Jump c name)) → IsJump (meanings s a.places) (length line.before.heads - 1) b.head.size c name b.bytes → LeadsToLabel s u number c name
-reached_by s u number c name a low known even line b j =
+reached_by s u number c name a known even line b j =
     let there : ℕ = j.offset in
     let here : ℕ = b.head.size in
     let section : ℕ = length line.before.heads - 1 in
@@ -398,14 +399,14 @@ reached_by s u number c name a low known even line b j =
       stands = stands_at s u a number (Jump c name) line b;
       given = ap (λ (v : UnitValue). slice_get v.sections section) (sym a.unit) ∙ b.given;
       holds = bytes_there b.home.bytes b.front (word_bytes (jump_word c (reach here there))) b.back here (b.whole ∙ ap (λ bs. (b.front ++ bs) ++ b.back) j.are) b.size;
-      means = λ w1 w2. jumps_are_meant c w1 w2 (reach here there) low j.near;
+      means = λ w1 w2. jumps_are_meant c w1 w2 (reach here there) j.near;
       symbol = subst (λ (v : UnitValue). Contains v.symbols label) a.unit (subst (Contains (symbols_for s.statements a.places s.tables.names (symbol_order s a.places))) is has);
       named = refl;
       beside = refl;
       reached = sym (jumps_lead here there (even_head line.before b.head line.even b.last) (even.spots name spot j.spot));
     }
 
-leads : (s : SourceRead) (u : UnitValue) (number c name : ℕ) → IsSource s → AreEven s.statements → IsAccepted s u → slice_get s.statements number ≡ Some (Jump c name) → LeadsToLabel s u number c name
+leads : (s : SourceRead) (u : UnitValue) (number : ℕ) (c : Condition) (name : ℕ) → IsSource s → AreEven s.statements → IsAccepted s u → slice_get s.statements number ≡ Some (Jump c name) → LeadsToLabel s u number c name
 leads s u number c name kept are a is =
     let m : Meanings = meanings s a.places in
     let line = line_of s u a number (Jump c name) are is in
@@ -415,7 +416,7 @@ leads s u number c name kept are a is =
     let low : number < length s.statements = slice_get_within s.statements number (Jump c name) is in
     let same : get_or s.statements number (Jump c name) ≡ Jump c name = get_or_from_slice_get s.statements number (Jump c name) (Jump c name) is in
     let known : IsKnown (name_count s) (Jump c name) = subst (IsKnown (name_count s)) same (kept.known number (Jump c name) low) in
-    reached_by s u number c name a known.0 known.1 even line b j
+    reached_by s u number c name a known even line b j
 
 -- what is written of a statement whose bytes no meaning changes
 written : (s : SourceRead) (u : UnitValue) (a : IsAccepted s u) (number : ℕ) (x : Statement ℕ) (wanted : List ℕ) (line : IsLine (meanings s a.places) 1 number (nowhere (name_count s)) a.end s.statements x)

@@ -36,7 +36,7 @@ use Rattle.asm_text.specs.declared.statement.Statement.TheVariants.{Code}
 use Rattle.asm_text.specs.Encoding.{extension, extensions, is_plain, is_source, is_dest, is_coded}
 use Rattle.asm_text.specs.Laws.{ShownIsRead, is_placeless_operand, is_placeless, AreWords}
 use Rattle.texts.specs.Words.{is_space, words}
-use Rattle.asm_text.specs.Lines.{mnemonic_width, base_of, two_op_of, one_op_of, cond_of, by_words, statement_of}
+use Rattle.asm_text.specs.Lines.{mnemonic_width, base_of, two_op_of, one_op_of, condition_of, by_words, statement_of}
 use Rattle.asm_text.specs.Operands.{without_ending, field_of, of_field, plain, number_by, immediate_of, indirect_of, indexed_at, indexed_of, operand_of}
 use Rattle.asm_text.specs.Parts.{is_name}
 use Rattle.asm_text.proofs.CodedLemmas.{decoded_coded}
@@ -195,7 +195,7 @@ record IsOneName (op : OneOp) (w : Width) (text : List ℕ) : Type 0 where
   pub no_word : bytes_eq text (codes "word") ≡ false
   pub no_space : bytes_eq text (codes "space") ≡ false
   pub no_unit : bytes_eq text (codes "unit") ≡ false
-  pub no_jump : cond_of text ≡ None
+  pub no_jump : condition_of text ≡ None
   pub width : mnemonic_width text ≡ w
   pub op_is : one_op_of (base_of text) ≡ Some op
 

@@ -1,5 +1,5 @@
 -- What a statement that a line writes keeps.
-use Rattle.std.proofs.Common.{ℕ, ◌≡◌, ◌<◌, ◌≤◌, Bool, true, false, cond, ◌&&◌, List, [], ◌∷◌, length, take, drop, codes, ◌%◌, Option, Some, None, nat_eq, nat_le, refl, ap, sym, subst, ◌∙◌, arith, lit<}
+use Rattle.std.proofs.Common.{ℕ, ◌≡◌, ◌≤◌, Bool, true, false, cond, ◌&&◌, List, [], ◌∷◌, length, take, drop, codes, ◌%◌, Option, Some, None, nat_eq, nat_le, refl, ap, sym, subst, ◌∙◌, arith, lit<}
 use Rattle.std.proofs.lemmas.Bool.Decides.{nat_tests}
 use Rattle.std.specs.Prelude.{option_map, option_and_then, slice_get}
 use Rattle.std.specs.Str.{bytes_eq}
@@ -8,6 +8,7 @@ use Rattle.texts.specs.Decimals.{read_decimal}
 use Rattle.texts.specs.Hexadecimals.{read_hex_word}
 use Rattle.texts.proofs.LawLemmas.{decimals_are_read}
 use Rattle.sm_words.specs.declared.width.Width.{Width}
+use Rattle.insn_decode.specs.declared.insn.Condition.{Condition}
 use Rattle.insn_decode.specs.declared.insn.Insn.{Insn}
 use Rattle.insn_decode.specs.declared.insn.Insn.TheVariants.{Two, One, Reti, Unit as UnitOp}
 use Rattle.insn_decode.specs.declared.insn.Operand.{Operand}
@@ -16,7 +17,6 @@ use Rattle.insn_decode.specs.declared.insn.TwoOp.{TwoOp}
 use Rattle.insn_decode.specs.declared.insn.OneOp.{OneOp}
 use Rattle.insn_decode.specs.declared.insn.UnitName.{UnitName}
 use Rattle.insn_decode.specs.Code.{unit_ops}
-use Rattle.insn_decode.specs.Text.{jump_name}
 use Rattle.asm_text.specs.declared.TheConstants.{MAX_SIZE}
 use Rattle.asm_text.specs.declared.unit.SectionKind.{SectionKind}
 use Rattle.asm_text.specs.declared.statement.Field.{Field}
@@ -25,7 +25,7 @@ use Rattle.asm_text.specs.declared.statement.Statement.{Statement}
 use Rattle.asm_text.specs.declared.statement.Statement.TheVariants.{Section, Label, Global, Word, Space, Jump, Code}
 use Rattle.asm_text.specs.Encoding.{is_coded}
 use Rattle.texts.specs.Words.{is_space, words}
-use Rattle.asm_text.specs.Lines.{coded, mnemonic_width, base_of, two_op_of, one_op_of, cond_of, one_coded, two_coded, section_kind, section_statement, even_size, space_of, numbered_unit, unit_statement, alone, jump_or_one, with_one, two_operands, with_two, by_words, statement_of}
+use Rattle.asm_text.specs.Lines.{coded, mnemonic_width, base_of, two_op_of, one_op_of, condition_of, one_coded, two_coded, section_kind, section_statement, even_size, space_of, numbered_unit, unit_statement, alone, jump_or_one, with_one, two_operands, with_two, by_words, statement_of}
 use Rattle.asm_text.specs.Operands.{behind, without_ending, name_of, field_by, field_of, register_of, of_field, plain, number_by, immediate_of, indirect_by, indirect_of, indexed_at, indexed_by, without_end, indexed_of, register_operand, absolute_of, behind_or, operand_of}
 use Rattle.asm_text.specs.Parts.{is_name}
 use Rattle.asm_text.specs.Statements.{OperandValue}
@@ -44,7 +44,7 @@ IsWritten (Label name) = is_name name ≡ true
 IsWritten (Global name) = is_name name ≡ true
 IsWritten (Word field) = NamedField field
 IsWritten (Space size) = (size ≤ MAX_SIZE) × (size % 2 ≡ 0)
-IsWritten (Jump cond target) = (cond < 8) × (is_name target ≡ true)
+IsWritten (Jump condition target) = is_name target ≡ true
 IsWritten (Code insn first second) = NamedOption first × NamedOption second × (is_coded insn ≡ true)
 
 -- ---- names, fields and operands
@@ -198,35 +198,17 @@ pub unit_there : (o : Option ℕ) (n : ℕ) (name : UnitName) (s : Statement (Li
 unit_there o n name s is there e =
     ap Some e ∙ sym (ap (option_and_then numbered_unit) is ∙ ap (option_map (λ (u : UnitName). Code (UnitOp u) None None)) there)
 
-cond_low : (word : List ℕ) (c : ℕ) → cond_of word ≡ Some c → c < 8
-cond_low word c e =
-    by (bytes_eq word (jump_name 0)) (bytes_eq word (jump_name 1)) (bytes_eq word (jump_name 2)) (bytes_eq word (jump_name 3)) (bytes_eq word (jump_name 4)) (bytes_eq word (jump_name 5)) (bytes_eq word (jump_name 6)) (bytes_eq word (jump_name 7)) e
+jump_some : (word text : List ℕ) (s : Statement (List ℕ)) → jump_or_one (condition_of word) word text ≡ Some s → IsWritten s
+jump_some word text s e = by (condition_of word) e
   where
-    is : (n : ℕ) → n < 8 → Some n ≡ Some c → c < 8
-    is n low k = subst (λ x. x < 8) (same_Some n c k) low
-
-    by : (b0 b1 b2 b3 b4 b5 b6 b7 : Bool) → cond b0 (Some 0) (cond b1 (Some 1) (cond b2 (Some 2) (cond b3 (Some 3) (cond b4 (Some 4) (cond b5 (Some 5) (cond b6 (Some 6) (cond b7 (Some 7) None))))))) ≡ Some c → c < 8
-    by true b1 b2 b3 b4 b5 b6 b7 k = is 0 (lit< tt) k
-    by false true b2 b3 b4 b5 b6 b7 k = is 1 (lit< tt) k
-    by false false true b3 b4 b5 b6 b7 k = is 2 (lit< tt) k
-    by false false false true b4 b5 b6 b7 k = is 3 (lit< tt) k
-    by false false false false true b5 b6 b7 k = is 4 (lit< tt) k
-    by false false false false false true b6 b7 k = is 5 (lit< tt) k
-    by false false false false false false true b7 k = is 6 (lit< tt) k
-    by false false false false false false false true k = is 7 (lit< tt) k
-    by false false false false false false false false k = absurd cc
-
-jump_some : (word text : List ℕ) (s : Statement (List ℕ)) → jump_or_one (cond_of word) word text ≡ Some s → IsWritten s
-jump_some word text s e = by (cond_of word) refl e
-  where
-    by : (o : Option ℕ) → cond_of word ≡ o → jump_or_one o word text ≡ Some s → IsWritten s
-    by (Some c) is k = named_some (Jump c) text s (λ name h. (cond_low word c is, h)) k
-    by None is k = one_some (mnemonic_width word) (one_op_of (base_of word)) text s k
+    by : (o : Option Condition) → jump_or_one o word text ≡ Some s → IsWritten s
+    by (Some c) k = named_some (Jump c) text s (λ name is. is) k
+    by None k = one_some (mnemonic_width word) (one_op_of (base_of word)) text s k
 
 with_one_some : (word text : List ℕ) (s : Statement (List ℕ)) → with_one word text ≡ Some s → IsWritten s
 with_one_some word text s e = by (bytes_eq word (codes "label")) (bytes_eq word (codes "global")) (bytes_eq word (codes "word")) (bytes_eq word (codes "space")) (bytes_eq word (codes "unit")) e
   where
-    by : (c d f g h : Bool) → cond c (option_map Label (name_of text)) (cond d (option_map Global (name_of text)) (cond f (option_map Word (field_of text)) (cond g (space_of text) (cond h (unit_statement text) (jump_or_one (cond_of word) word text))))) ≡ Some s → IsWritten s
+    by : (c d f g h : Bool) → cond c (option_map Label (name_of text)) (cond d (option_map Global (name_of text)) (cond f (option_map Word (field_of text)) (cond g (space_of text) (cond h (unit_statement text) (jump_or_one (condition_of word) word text))))) ≡ Some s → IsWritten s
     by true d f g h k = named_some Label text s (λ name is. is) k
     by false true f g h k = named_some Global text s (λ name is. is) k
     by false false true g h k = word_some text s k

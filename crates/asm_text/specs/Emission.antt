@@ -1,9 +1,11 @@
 -- The bytes of the sections, line by line and without a gap, and the relocations; or the first jump that is refused.
 use Rattle.std.specs.Prelude.{ℕ, ◌+◌, ◌-◌, ◌*◌, ◌/◌, ◌==◌, nat_le, nat_lt, Bool, if◌then◌else◌, List, [], ◌∷◌, ◌++◌, length, slice_index_or, slice_get, slice_set, Option, Some, None, option_and_then, Result, Ok, Err, ℤ, pos, negsuc, ◌-ℤ◌}
 use Rattle.sm_words.specs.Bytes.{word_bytes}
+use Rattle.insn_decode.specs.declared.insn.Condition.{Condition}
 use Rattle.insn_decode.specs.declared.insn.Insn.{Insn}
 use Rattle.insn_decode.specs.declared.insn.Insn.TheVariants.{Two}
 use Rattle.insn_decode.specs.Code.{words_of as words_in}
+use Rattle.insn_decode.specs.Means.{condition_code}
 use Rattle.asm_text.specs.declared.placing.Spot.{Spot}
 use Rattle.asm_text.specs.declared.statement.Field.{Field}
 use Rattle.asm_text.specs.declared.statement.Field.TheVariants.{Number, Name}
@@ -47,17 +49,17 @@ abbrev pub offset_bits : ℤ → ℕ
 offset_bits (pos n) = n
 offset_bits (negsuc n) = 1023 - n
 
-abbrev pub jump_word : ℕ → ℤ → ℕ
-jump_word cond offset = 0x2000 + cond * 1024 + offset_bits offset
+abbrev pub jump_word : Condition → ℤ → ℕ
+jump_word condition offset = 0x2000 + condition_code condition * 1024 + offset_bits offset
 
-abbrev pub jump_over : ℕ → ℕ → ℤ → Result (List ℕ) AsmFault
-jump_over n cond offset = if is_near offset then Ok (word_bytes (jump_word cond offset)) else Err (Far n offset)
+abbrev pub jump_over : ℕ → Condition → ℤ → Result (List ℕ) AsmFault
+jump_over n condition offset = if is_near offset then Ok (word_bytes (jump_word condition offset)) else Err (Far n offset)
 
 -- the jump of line n, at `here` in a section, to the spot of its name
-abbrev pub jump_bytes : ℕ → ℕ → ℕ → ℕ → Option Spot → Result (List ℕ) AsmFault
-jump_bytes n section here cond None = Err (NoLabel n)
-jump_bytes n section here cond (Some spot) =
-    if spot.section == section then jump_over n cond (reach here spot.offset) else Err (NoLabel n)
+abbrev pub jump_bytes : ℕ → ℕ → ℕ → Condition → Option Spot → Result (List ℕ) AsmFault
+jump_bytes n section here condition None = Err (NoLabel n)
+jump_bytes n section here condition (Some spot) =
+    if spot.section == section then jump_over n condition (reach here spot.offset) else Err (NoLabel n)
 
 -- ---- the bytes of a statement
 
@@ -67,7 +69,7 @@ field_number (Name name) = 0
 
 abbrev pub statement_bytes : Meanings → ℕ → ℕ → ℕ → Statement ℕ → Result (List ℕ) AsmFault
 statement_bytes m n section here (Word field) = Ok (word_bytes (field_number field))
-statement_bytes m n section here (Jump cond target) = jump_bytes n section here cond (spot_of m.spots target)
+statement_bytes m n section here (Jump condition target) = jump_bytes n section here condition (spot_of m.spots target)
 statement_bytes m n section here (Code insn first second) = Ok (code_bytes insn)
 statement_bytes m n section here _ = Ok []
 

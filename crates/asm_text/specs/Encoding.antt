@@ -47,7 +47,7 @@ byte_flag Word = 0
 unfoldable pub encoded_first : Insn → ℕ
 encoded_first (Two op w s d) = two_code op * 0x1000 + source_register s * 256 + dest_mode d * 128 + byte_flag w * 64 + source_mode s * 16 + source_register d
 encoded_first (One op w a) = 0x1000 + one_code op * 128 + byte_flag w * 64 + source_mode a * 16 + source_register a
-encoded_first (Jump cond offset) = 0
+encoded_first (Jump condition offset) = 0
 encoded_first Reti = 0x1300
 encoded_first (UnitOp name) = 0x1380 + unit_code name
 
@@ -105,6 +105,6 @@ is_dest _ = false
 abbrev pub is_coded : Insn → Bool
 is_coded (Two op w s d) = is_source s && is_dest d
 is_coded (One op w a) = is_source a && one_fits op w a
-is_coded (Jump cond offset) = false
+is_coded (Jump condition offset) = false
 is_coded Reti = true
 is_coded (UnitOp name) = true

@@ -2,6 +2,7 @@
 use Rattle.std.specs.Prelude.{ℕ, ◌≡◌, ◌%◌, ◌<◌, Bool, true, false, ◌&&◌, List, [], ◌∷◌, take, Some, None, All, ℤ}
 use Rattle.insn_decode.specs.declared.insn.Operand.{Operand}
 use Rattle.insn_decode.specs.declared.insn.Operand.TheVariants.{Symbolic}
+use Rattle.insn_decode.specs.declared.insn.Condition.{Condition}
 use Rattle.insn_decode.specs.declared.insn.Insn.{Insn}
 use Rattle.insn_decode.specs.declared.insn.Insn.TheVariants.{Two, One, Jump}
 use Rattle.insn_decode.specs.Code.{insn_of, length_of, IsDecoded}
@@ -19,7 +20,7 @@ CodedIsMeant = (insn : Insn) → is_coded insn ≡ true → IsMeant insn
 
 -- The word of a jump means that jump.
 abbrev pub JumpsAreMeant : Type 0
-JumpsAreMeant = (cond w1 w2 : ℕ) (offset : ℤ) → cond < 8 → is_near offset ≡ true → Means (jump_word cond offset) w1 w2 (Jump cond offset) 1
+JumpsAreMeant = (condition : Condition) (w1 w2 : ℕ) (offset : ℤ) → is_near offset ≡ true → Means (jump_word condition offset) w1 w2 (Jump condition offset) 1
 
 -- A jump leads to its label.
 abbrev pub JumpsLead : Type 0
@@ -36,7 +37,7 @@ is_placeless_operand _ = true
 abbrev pub is_placeless : Insn → Bool
 is_placeless (Two op w s d) = is_placeless_operand s && is_placeless_operand d
 is_placeless (One op w a) = is_placeless_operand a
-is_placeless (Jump cond offset) = false
+is_placeless (Jump condition offset) = false
 is_placeless _ = true
 
 abbrev pub AreWords : List ℕ → Type 0
@@ -48,7 +49,7 @@ ShownIsRead = (insn : Insn) (at : ℕ) → IsDecoded insn → is_placeless insn 
     (statement_of (insn_text insn at) ≡ Some (Code insn None None)) × IsMeant insn
 
 abbrev pub is_jump : Insn → Bool
-is_jump (Jump cond offset) = true
+is_jump (Jump condition offset) = true
 is_jump _ = false
 
 -- An instruction that was decoded, and is no jump, is written with the very words that it was decoded from.

@@ -7,9 +7,10 @@ use Rattle.sm_words.specs.declared.width.Width.{Width}
 use Rattle.sm_words.specs.declared.width.Width.TheVariants.{Byte, Word as WordWidth}
 use Rattle.insn_decode.specs.declared.insn.TwoOp.{TwoOp}
 use Rattle.insn_decode.specs.declared.insn.OneOp.{OneOp}
+use Rattle.insn_decode.specs.declared.insn.Condition.{Condition}
 use Rattle.insn_decode.specs.declared.insn.Insn.{Insn}
 use Rattle.insn_decode.specs.declared.insn.Insn.TheVariants.{Two, One, Reti, Unit as UnitOp}
-use Rattle.insn_decode.specs.Code.{two_ops, one_ops, unit_ops}
+use Rattle.insn_decode.specs.Code.{two_ops, one_ops, conditions, unit_ops}
 use Rattle.insn_decode.specs.Text.{two_name, one_name, jump_name}
 use Rattle.asm_text.specs.declared.unit.SectionKind.{SectionKind}
 use Rattle.asm_text.specs.declared.unit.SectionKind.TheVariants.{Code as CodeKind, Data as DataKind, Bss as BssKind}
@@ -47,11 +48,8 @@ two_op_of base = find (λ op. bytes_eq base (two_name op)) two_ops
 abbrev pub one_op_of : List ℕ → Option OneOp
 one_op_of base = find (λ op. bytes_eq base (one_name op)) one_ops
 
-abbrev pub conds : List ℕ
-conds = 0 ∷ 1 ∷ 2 ∷ 3 ∷ 4 ∷ 5 ∷ 6 ∷ 7 ∷ []
-
-abbrev pub cond_of : List ℕ → Option ℕ
-cond_of word = find (λ cond. bytes_eq word (jump_name cond)) conds
+abbrev pub condition_of : List ℕ → Option Condition
+condition_of word = find (λ condition. bytes_eq word (jump_name condition)) conditions
 
 abbrev pub one_coded : Width → Option OneOp → Option OperandValue → Option (Statement (List ℕ))
 one_coded w (Some op) (Some a) = coded (One op w a.operand) a.name None
@@ -93,8 +91,8 @@ alone word = if bytes_eq word (codes "reti") then Some (Code Reti None None) els
 abbrev pub one_operand : List ℕ → List ℕ → Option (Statement (List ℕ))
 one_operand word text = one_coded (mnemonic_width word) (one_op_of (base_of word)) (operand_of text)
 
-abbrev pub jump_or_one : Option ℕ → List ℕ → List ℕ → Option (Statement (List ℕ))
-jump_or_one (Some cond) word text = option_map (Jump cond) (name_of text)
+abbrev pub jump_or_one : Option Condition → List ℕ → List ℕ → Option (Statement (List ℕ))
+jump_or_one (Some condition) word text = option_map (Jump condition) (name_of text)
 jump_or_one None word text = one_operand word text
 
 abbrev pub with_one : List ℕ → List ℕ → Option (Statement (List ℕ))
@@ -104,7 +102,7 @@ with_one word text =
     else (if bytes_eq word (codes "word") then option_map Word (field_of text)
     else (if bytes_eq word (codes "space") then space_of text
     else (if bytes_eq word (codes "unit") then unit_statement text
-    else jump_or_one (cond_of word) word text))))
+    else jump_or_one (condition_of word) word text))))
 
 abbrev pub two_operands : Option (List ℕ) → List ℕ → List ℕ → Option (Statement (List ℕ))
 two_operands (Some source) word dest = two_coded (mnemonic_width word) (two_op_of (base_of word)) (operand_of source) (operand_of dest)

@@ -44,7 +44,7 @@ tables_after t (Global name) = record { sections = t.sections; names = name_adde
 tables_after t (Word (Name name)) = record { sections = t.sections; names = name_added t.names name }
 tables_after t (Word (Number n)) = t
 tables_after t (Space size) = t
-tables_after t (Jump cond target) = record { sections = t.sections; names = name_added t.names target }
+tables_after t (Jump condition target) = record { sections = t.sections; names = name_added t.names target }
 tables_after t (Code insn first second) = record { sections = t.sections; names = noted_option (noted_option t.names first) second }
 
 -- a statement that follows those of the tables, with its names by their numbers
@@ -55,5 +55,5 @@ numbered t (Global name) = Global (name_number t.names name)
 numbered t (Word (Name name)) = Word (Name (name_number t.names name))
 numbered t (Word (Number n)) = Word (Number n)
 numbered t (Space size) = Space size
-numbered t (Jump cond target) = Jump cond (name_number t.names target)
+numbered t (Jump condition target) = Jump condition (name_number t.names target)
 numbered t (Code insn first second) = Code insn (number_option t.names first) (number_option (noted_option t.names first) second)

@@ -18,7 +18,7 @@ pub record Line : Type 0 where
 abbrev pub PutsBytes : Statement ℕ → List ℕ → Type 0
 PutsBytes (Code insn first second) bytes = bytes ≡ code_bytes insn
 PutsBytes (Word field) bytes = bytes ≡ word_bytes (field_number field)
-PutsBytes (Jump cond target) bytes = length bytes ≡ 2
+PutsBytes (Jump condition target) bytes = length bytes ≡ 2
 PutsBytes _ bytes = bytes ≡ []
 
 abbrev pub begins_section : Statement ℕ → Bool

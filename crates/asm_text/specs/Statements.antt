@@ -20,7 +20,7 @@ pub record OperandValue : Type 0 where
 abbrev pub statement_size : Statement ℕ → ℕ
 statement_size (Word field) = 2
 statement_size (Space size) = size
-statement_size (Jump cond target) = 2
+statement_size (Jump condition target) = 2
 statement_size (Code insn first second) = 2 * length_of insn
 statement_size _ = 0
 
@@ -30,8 +30,8 @@ kind_takes BssKind (Word field) = false
 kind_takes _ (Word field) = true
 kind_takes BssKind (Space size) = true
 kind_takes _ (Space size) = false
-kind_takes CodeKind (Jump cond target) = true
-kind_takes _ (Jump cond target) = false
+kind_takes CodeKind (Jump condition target) = true
+kind_takes _ (Jump condition target) = false
 kind_takes CodeKind (Code insn first second) = true
 kind_takes _ (Code insn first second) = false
 kind_takes _ _ = true

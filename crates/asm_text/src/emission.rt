@@ -19,7 +19,7 @@ use crate::placing::{Spot, statement_size};
 use crate::statement::{Field, Statement};
 use crate::unit::{AsmFault, AsmRelocation, AsmSection, SectionKind};
 use arrayvec::ArrayVec;
-use insn_decode::{Insn, Operand};
+use insn_decode::{Condition, Insn, Operand};
 use std::alloc::{AllocError, Global};
 
 /// Bits 13 and up of a jump.
@@ -103,13 +103,12 @@ fn is_near(offset: i64) -> bool
     -512 <= offset && offset < 512
 }
 
-fn jump_word(cond: u8, offset: i64) -> u16
-    requires cond { cond < 8 }
-    requires near { IsTrue (spec.is_near offset) }
-    ensures { result ≡ spec.jump_word cond offset }
+fn jump_word(condition: Condition, offset: i64) -> u16
+    requires { IsTrue (spec.is_near offset) }
+    ensures { result ≡ spec.jump_word condition offset }
 {
     let bits = if offset < 0 { 1024 + offset } else { offset };
-    JUMP + u16::from(cond) * 1024 + bits as u16
+    JUMP + u16::from(condition.number()) * 1024 + bits as u16
 }
 
 // The jump of line n, at `here` in this section, to a spot.
@@ -117,13 +116,12 @@ fn jump_bytes(
     n: u64,
     section: usize,
     here: u32,
-    cond: u8,
+    condition: Condition,
     spot: Option<Spot>,
 ) -> Result<Bytes, AsmFault>
-    requires here { here ≤ 65534 }
-    requires cond { cond < 8 }
-    ensures { MatchResult result (λ bytes. spec.jump_bytes n section here cond spot ≡ Ok bytes.items)
-        (λ fault. spec.jump_bytes n section here cond spot ≡ Err fault) }
+    requires { here ≤ 65534 }
+    ensures { MatchResult result (λ bytes. spec.jump_bytes n section here condition spot ≡ Ok bytes.items)
+        (λ fault. spec.jump_bytes n section here condition spot ≡ Err fault) }
 {
     let Some(spot) = spot else {
         return Err(AsmFault::NoLabel { n });
@@ -133,7 +131,7 @@ fn jump_bytes(
     }
     let value = reach(here, spot.offset);
     if is_near(value) {
-        Ok(word_bytes(jump_word(cond, value)))
+        Ok(word_bytes(jump_word(condition, value)))
     } else {
         Err(AsmFault::Far { n, value })
     }
@@ -179,8 +177,8 @@ fn statement_bytes(
 {
     match statement {
         Statement::Word(field) => Ok(word_bytes(field_number(field))),
-        Statement::Jump { cond, target } => {
-            jump_bytes(n, section, here, cond, meanings.spots[target])
+        Statement::Jump { condition, target } => {
+            jump_bytes(n, section, here, condition, meanings.spots[target])
         }
         Statement::Code { insn, .. } => Ok(code_bytes(insn)),
         Statement::Section { .. }

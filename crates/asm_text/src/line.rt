@@ -1,6 +1,6 @@
 //! The statement that a line writes.
 
-ghost use Rattle.std.specs.Prelude.{◌≡◌, ◌<◌, Some, None, option_map, length, IfSome};
+ghost use Rattle.std.specs.Prelude.{◌≡◌, Some, None, option_map, length};
 ghost use Rattle.std.specs.Option.{option_copied};
 ghost use Rattle.insn_decode.specs.Code as code;
 ghost use Rattle.insn_decode.specs.Text as names;
@@ -14,7 +14,7 @@ use crate::encoding::is_coded;
 use crate::operand::{field_of, name_of, operand_of};
 use crate::statement::{Statement, Value};
 use crate::unit::SectionKind;
-use insn_decode::{Insn, OneOp, TwoOp, UnitName};
+use insn_decode::{Condition, Insn, OneOp, TwoOp, UnitName};
 use sm_words::Width;
 use texts::{read_decimal, split_word};
 
@@ -72,8 +72,8 @@ fn with_one<'a>(word: &[u8], text: &'a [u8]) -> Option<Statement<&'a [u8]>>
     } else if word == b"unit".as_slice() {
         unit_statement(text)
     } else {
-        match cond_of(word) {
-            Some(cond) => name_of(text).map(|target| Statement::Jump { cond, target }),
+        match condition_of(word) {
+            Some(condition) => name_of(text).map(|target| Statement::Jump { condition, target }),
             None => one_operand(word, text),
         }
     }
@@ -286,36 +286,43 @@ fn one_name(op: OneOp) -> &'static str
 }
 
 // The condition of a jump by its name.
-fn cond_of(word: &[u8]) -> Option<u8>
-    ensures exact { result ≡ spec.cond_of word.now }
-    ensures most { IfSome result (λ cond. cond < 8) }
+fn condition_of(word: &[u8]) -> Option<Condition>
+    ensures { result ≡ spec.condition_of word.now }
 {
-    for cond in conds() {
-        if word == jump_name(*cond).as_bytes() {
-            return Some(*cond);
+    for condition in conditions() {
+        if word == jump_name(*condition).as_bytes() {
+            return Some(*condition);
         }
     }
     None
 }
 
-fn conds() -> &'static [u8]
-    ensures { result.now ≡ spec.conds }
+fn conditions() -> &'static [Condition]
+    ensures { result.now ≡ code.conditions }
 {
-    &[0, 1, 2, 3, 4, 5, 6, 7]
+    &[
+        Condition::NotZero,
+        Condition::Zero,
+        Condition::NoCarry,
+        Condition::Carry,
+        Condition::Negative,
+        Condition::GreaterOrEqual,
+        Condition::Less,
+        Condition::Always,
+    ]
 }
 
-fn jump_name(cond: u8) -> &'static str
-    ensures { result.now ≡ names.jump_name cond }
+fn jump_name(condition: Condition) -> &'static str
+    ensures { result.now ≡ names.jump_name condition }
 {
-    match cond {
-        0 => "jne",
-        1 => "jeq",
-        2 => "jnc",
-        3 => "jc",
-        4 => "jn",
-        5 => "jge",
-        6 => "jl",
-        7 => "jmp",
-        _ => "",
+    match condition {
+        Condition::NotZero => "jne",
+        Condition::Zero => "jeq",
+        Condition::NoCarry => "jnc",
+        Condition::Carry => "jc",
+        Condition::Negative => "jn",
+        Condition::GreaterOrEqual => "jge",
+        Condition::Less => "jl",
+        Condition::Always => "jmp",
     }
 }

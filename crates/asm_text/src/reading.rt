@@ -107,9 +107,9 @@ impl<'a> Tables<'a> {
             }
             Statement::Word(field) => number_field(&mut self.names, field),
             Statement::Space(size) => Ok(Statement::Space(size)),
-            Statement::Jump { cond, target } => {
+            Statement::Jump { condition, target } => {
                 let target = self.names.number(target)?;
-                Ok(Statement::Jump { cond, target })
+                Ok(Statement::Jump { condition, target })
             }
             Statement::Code {
                 insn,

@@ -1,7 +1,7 @@
 //! What a line says.
 
 use crate::unit::SectionKind;
-use insn_decode::{Insn, Operand};
+use insn_decode::{Condition, Insn, Operand};
 
 /// A number, or the name that stands for one.
 #[derive(Clone, Copy, Debug, PartialEq, Eq)]
@@ -23,7 +23,7 @@ pub enum Statement<N> {
     /// So many zeros.
     Space(u32),
     Jump {
-        cond: u8,
+        condition: Condition,
         target: N,
     },
     /// An instruction with 0 for names; `first` is the name in its first operand, `second` that in its second.

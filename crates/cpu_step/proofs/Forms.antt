@@ -6,6 +6,7 @@ use Rattle.sm_words.specs.declared.registers.TheConstants.{PC, SP, SR}
 use Rattle.sm_words.specs.declared.status.TheConstants.{CARRY}
 use Rattle.sm_words.specs.declared.width.Width.{Width}
 use Rattle.insn_decode.specs.Code.{words_of}
+use Rattle.insn_decode.specs.declared.insn.Condition.{Condition}
 use Rattle.insn_decode.specs.declared.insn.Insn.{Insn}
 use Rattle.insn_decode.specs.declared.insn.Insn.TheVariants.{Two, One, Jump}
 use Rattle.insn_decode.specs.declared.insn.OneOp.{OneOp}
@@ -54,13 +55,13 @@ module _ (insn : Insn) (core values : List ℕ) where
       ∙ ap (λ x. one_done op w arg (given arg w x values) (bit CARRY (reg core SR)) (stepped w arg x)) first
       ∙ sym (ap (λ i. does_freely i core values) e0)
 
-  pub jump_form : (cond : ℕ) (offset : ℤ) (core1 : List ℕ) (t : Bool) →
-      insn ≡ Jump cond offset → core1 ≡ past insn core → t ≡ jumps cond (reg core SR) →
+  pub jump_form : (condition : Condition) (offset : ℤ) (core1 : List ℕ) (t : Bool) →
+      insn ≡ Jump condition offset → core1 ≡ past insn core → t ≡ jumps condition (reg core SR) →
       jumped t offset core1 ≡ (does_freely insn core values).core
   unfolding does_freely
-  jump_form cond offset core1 t e0 e1 et =
+  jump_form condition offset core1 t e0 e1 et =
       ap (λ x. jumped x offset core1) et
-      ∙ ap (jumped (jumps cond (reg core SR)) offset) (e1 ∙ ap (λ i. past i core) e0)
+      ∙ ap (jumped (jumps condition (reg core SR)) offset) (e1 ∙ ap (λ i. past i core) e0)
       ∙ sym (ap (λ i. (does_freely i core values).core) e0)
 
 module _ (insn : Insn) (core : List ℕ) where

@@ -9,6 +9,8 @@ use Rattle.sm_words.specs.declared.registers.TheConstants.{PC, SP, SR}
 use Rattle.sm_words.specs.declared.status.TheConstants.{CARRY, ZERO, NEGATIVE, OVERFLOW}
 use Rattle.sm_words.specs.declared.width.Width.{Width}
 use Rattle.insn_decode.specs.Code.{distance}
+use Rattle.insn_decode.specs.declared.insn.Condition.{Condition}
+use Rattle.insn_decode.specs.declared.insn.Condition.TheVariants.{NotZero, Zero, NoCarry, Carry, Negative, GreaterOrEqual, Less, Always}
 use Rattle.insn_decode.specs.declared.insn.Insn.{Insn}
 use Rattle.insn_decode.specs.declared.insn.Insn.TheVariants.{Two, One, Jump, Reti, Unit as UnitOp}
 use Rattle.insn_decode.specs.declared.insn.OneOp.{OneOp}
@@ -98,11 +100,16 @@ written true (Reg r) res core = record { core = into_register (r == SR) r res co
 written true _ res core = record { core = set_flags res core; stored = value_of res ∷ [] }
 written false _ res core = record { core = set_flags res core; stored = [] }
 
--- whether a jump is taken: JNE, JEQ, JNC, JC, JN, JGE, JL, and JMP always
-abbrev pub jumps : ℕ → ℕ → Bool
-jumps cond sr =
-    let c = bit CARRY sr in let z = bit ZERO sr in let n = bit NEGATIVE sr in let v = bit OVERFLOW sr in
-    nth cond ((z == 0) ∷ (z == 1) ∷ (c == 0) ∷ (c == 1) ∷ (n == 1) ∷ (n == v) ∷ not (n == v) ∷ []) true
+-- whether a jump is taken, by the flags of SR
+abbrev pub jumps : Condition → ℕ → Bool
+jumps NotZero sr = bit ZERO sr == 0
+jumps Zero sr = bit ZERO sr == 1
+jumps NoCarry sr = bit CARRY sr == 0
+jumps Carry sr = bit CARRY sr == 1
+jumps Negative sr = bit NEGATIVE sr == 1
+jumps GreaterOrEqual sr = bit NEGATIVE sr == bit OVERFLOW sr
+jumps Less sr = not (bit NEGATIVE sr == bit OVERFLOW sr)
+jumps Always sr = true
 
 -- the core past a jump that is taken, or not
 abbrev pub jumped : Bool → ℤ → List ℕ → List ℕ
@@ -130,8 +137,8 @@ does_freely (Two op w s d) core values =
 does_freely (One op w arg) core values =
     let core1 = past (One op w arg) core in
     one_done op w arg (given arg w core1 values) (bit CARRY (reg core SR)) (stepped w arg core1)
-does_freely (Jump cond off) core values =
-    record { core = jumped (jumps cond (reg core SR)) off (past (Jump cond off) core); stored = [] }
+does_freely (Jump condition off) core values =
+    record { core = jumped (jumps condition (reg core SR)) off (past (Jump condition off) core); stored = [] }
 does_freely Reti core values = record { core = returned (nth 0 values 0) (nth 1 values 0) core; stored = [] }
 does_freely (UnitOp name) core values = record { core = past (UnitOp name) core; stored = [] }
 

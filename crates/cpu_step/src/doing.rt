@@ -249,7 +249,7 @@ pub fn do_freely<P: Port>(insn: &Insn, core: &mut Core, port: &mut P)
             dst,
         } => do_two(insn, op, width, src, dst, core, port),
         Insn::One { op, width, arg } => do_one(insn, op, width, arg, core, port),
-        Insn::Jump { cond, offset } => do_jump(insn, cond, offset, core),
+        Insn::Jump { condition, offset } => do_jump(insn, condition, offset, core),
         Insn::Reti => do_reti(core, port),
         Insn::Unit(_) => step_past(insn, core),
     }

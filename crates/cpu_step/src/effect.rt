@@ -9,7 +9,7 @@ ghost use Rattle.cpu_step.specs.Effect.{set_flags, into_register, jumps, jumped,
 
 use crate::accesses::step_past;
 use crate::result::Computed;
-use insn_decode::Insn;
+use insn_decode::{Condition, Insn};
 use sm_words::{Core, PC, SR, status};
 
 /// Sets the flags of a result.
@@ -39,24 +39,24 @@ pub fn carry(core: &Core) -> bool
     status::is_set(status::CARRY, core.sr())
 }
 
-/// Whether a jump is taken: JNE, JEQ, JNC, JC, JN, JGE, JL, JMP.
+/// Whether a jump is taken, by the flags of SR.
 #[inline(always)]
-fn jumps(cond: u8, sr: u16) -> bool
-    ensures { result ≡ jumps cond sr }
+fn jumps(condition: Condition, sr: u16) -> bool
+    ensures { result ≡ jumps condition sr }
 {
     let c = status::is_set(status::CARRY, sr);
     let z = status::is_set(status::ZERO, sr);
     let n = status::is_set(status::NEGATIVE, sr);
     let v = status::is_set(status::OVERFLOW, sr);
-    match cond {
-        0 => !z,
-        1 => z,
-        2 => !c,
-        3 => c,
-        4 => n,
-        5 => n == v,
-        6 => n != v,
-        _ => true,
+    match condition {
+        Condition::NotZero => !z,
+        Condition::Zero => z,
+        Condition::NoCarry => !c,
+        Condition::Carry => c,
+        Condition::Negative => n,
+        Condition::GreaterOrEqual => n == v,
+        Condition::Less => n != v,
+        Condition::Always => true,
     }
 }
 
@@ -80,11 +80,11 @@ fn jump(taken: bool, offset: i16, core: &mut Core)
 
 /// A jump.
 #[inline(always)]
-pub fn do_jump(insn: &Insn, cond: u8, offset: i16, core: &mut Core)
-    requires { insn.now ≡ Insn.Jump cond offset }
+pub fn do_jump(insn: &Insn, condition: Condition, offset: i16, core: &mut Core)
+    requires { insn.now ≡ Insn.Jump condition offset }
     ensures { (values : List ℕ) → core.new ≡ (does_freely insn.now core.old values).core }
 {
-    let taken = jumps(cond, core.sr());
+    let taken = jumps(condition, core.sr());
     step_past(insn, core);
     jump(taken, offset, core);
 }

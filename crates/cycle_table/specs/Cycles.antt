@@ -41,6 +41,6 @@ one_cycles _ op = by_operation op 4 5 5
 unfoldable pub cycles_of : Insn → ℕ
 cycles_of (Two op w s d) = two_cycles s d
 cycles_of (One op w a) = one_cycles a op
-cycles_of (Jump cond offset) = 2
+cycles_of (Jump condition offset) = 2
 cycles_of Reti = 5
 cycles_of (UnitOp name) = 6

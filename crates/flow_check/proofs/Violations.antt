@@ -1,15 +1,16 @@
 -- The least of the violations.
-use Rattle.std.proofs.Common.{◌≢◌, ◌==◌, ◌≡◌, ℕ, zero, suc, ◌+◌, ◌-◌, ◌<◌, ◌≤◌, List, [], ◌∷◌, ◌++◌, length, refl, sym, ap, ◌∙◌, arith, true, false, cond, Option, append_assoc}
+use Rattle.std.proofs.Common.{◌==◌, ◌≡◌, ℕ, zero, suc, ◌+◌, ◌-◌, ◌<◌, ◌≤◌, List, [], ◌∷◌, ◌++◌, length, refl, sym, ap, ◌∙◌, arith, true, false, cond, Option, append_assoc}
 use Rattle.std.specs.Prelude.{ℤ, Some}
 use Rattle.sm_words.specs.Words.{nth, word_at}
+use Rattle.insn_decode.specs.declared.insn.Condition.{Condition}
 use Rattle.insn_decode.specs.declared.insn.Insn.{Insn}
 use Rattle.insn_decode.specs.declared.insn.Insn.TheVariants.{Jump, Reti}
+use Rattle.insn_decode.specs.Code.{is_always}
 use Rattle.mod_layout.specs.declared.Module.{Module}
 use Rattle.flow_rule.specs.Terms.{Terms}
 use Rattle.flow_rule.specs.declared.Val.{Val}
 use Rattle.flow_rule.specs.declared.Reach.{Reach}
 use Rattle.flow_rule.specs.declared.Reason.TheVariants.{SecretAtExit, DataAtExit, Illegal, UnknownTarget, SecretBranch}
-use Rattle.std.proofs.lemmas.Bool.Decides.{nat_tests}
 use Rattle.flow_rule.specs.declared.Val.TheVariants.{Secret}
 use Rattle.flow_rule.specs.Rounds.{RuleViolation, FlowStep, Point}
 use Rattle.flow_rule.specs.Values.{is_secret, val}
@@ -83,18 +84,16 @@ either_way terms m insn x =
     also (violation_if (is_secret (val x.label.core 2)) x.pair.addr SecretBranch 0)
     (both (taken_to terms m insn x) (goes terms m x.pair.addr x.pair.returns (past_val insn x.pair.addr x.label.core) x.label.words))
 
-pub jump_seven : (terms : Terms) (m : Module) (text : List ℕ) (insn : Insn) (cond_no : ℕ) (x : Point) → cond_no ≡ 7 →
-    step_jump terms m text insn cond_no x ≡ taken_to terms m insn x
-jump_seven terms m text insn cond_no x e =
-    ap (λ b. cond b (taken_to terms m insn x) (either_way terms m insn x)) (let t : (cond_no == 7) ≡ true = grind (arith, nat_tests) in t)
+pub jump_always : (terms : Terms) (m : Module) (text : List ℕ) (insn : Insn) (cn : Condition) (x : Point) → is_always cn ≡ true →
+    step_jump terms m text insn cn x ≡ taken_to terms m insn x
+jump_always terms m text insn cn x e = ap (λ b. cond b (taken_to terms m insn x) (either_way terms m insn x)) e
 
-pub jump_other : (terms : Terms) (m : Module) (text : List ℕ) (insn : Insn) (cond_no : ℕ) (x : Point) → cond_no ≢ 7 →
-    step_jump terms m text insn cond_no x ≡ either_way terms m insn x
-jump_other terms m text insn cond_no x e =
-    ap (λ b. cond b (taken_to terms m insn x) (either_way terms m insn x)) (let t : (cond_no == 7) ≡ false = grind (arith, nat_tests) in t)
+pub jump_other : (terms : Terms) (m : Module) (text : List ℕ) (insn : Insn) (cn : Condition) (x : Point) → is_always cn ≡ false →
+    step_jump terms m text insn cn x ≡ either_way terms m insn x
+jump_other terms m text insn cn x e = ap (λ b. cond b (taken_to terms m insn x) (either_way terms m insn x)) e
 
-pub jump_same : (terms : Terms) (m : Module) (text : List ℕ) (insn : Insn) (cond_no : ℕ) (off : ℤ) (x : Point) → insn ≡ Jump cond_no off → step_jump terms m text insn cond_no x ≡ step_insn terms m text (Some insn) x
-jump_same terms m text insn cond_no off x e = ap (λ i. step_jump terms m text i cond_no x) e ∙ sym (ap (λ i. step_insn terms m text (Some i) x) e)
+pub jump_same : (terms : Terms) (m : Module) (text : List ℕ) (insn : Insn) (cn : Condition) (off : ℤ) (x : Point) → insn ≡ Jump cn off → step_jump terms m text insn cn x ≡ step_insn terms m text (Some insn) x
+jump_same terms m text insn cn off x e = ap (λ i. step_jump terms m text i cn x) e ∙ sym (ap (λ i. step_insn terms m text (Some i) x) e)
 
 pub reti_same : (terms : Terms) (m : Module) (text : List ℕ) (insn : Insn) (x : Point) → insn ≡ Reti → fails x.pair.addr Illegal (word_at (text_byte m.text text) x.pair.addr) ≡ step_insn terms m text (Some insn) x
 reti_same terms m text insn x e = sym (ap (λ i. step_insn terms m text (Some i) x) e)

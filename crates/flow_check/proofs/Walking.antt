@@ -3,7 +3,7 @@ use Rattle.std.proofs.Common.{◌≡◌, ◌≢◌, ℕ, zero, suc, ◌+◌, ◌
 use Rattle.std.specs.List.{slice_get}
 use Rattle.std.proofs.lemmas.Bool.Decides.{nat_tests}
 use Rattle.sm_words.specs.Words.{add16}
-use Rattle.insn_decode.specs.Code.{distance}
+use Rattle.insn_decode.specs.Code.{distance, is_always}
 use Rattle.insn_decode.specs.declared.insn.Insn.{Insn}
 use Rattle.insn_decode.specs.declared.insn.Insn.TheVariants.{Jump}
 use Rattle.cycle_table.specs.Cycles.{cycles_of}
@@ -125,7 +125,7 @@ unfolding step_arms
 site_is S arms m text x = by (met m.text text x.pair.addr)
   where
     by : (o : Option Insn) → step_arms_by o S arms m text x ≡ step_at (site_by o arms x.pair.addr (val x.label.core 2)) S m text x
-    by (Some (Jump c off)) = jump (not (c == 7) && is_secret (val x.label.core 2)) (find (λ arm. arm.branch == x.pair.addr) arms)
+    by (Some (Jump c off)) = jump (not (is_always c) && is_secret (val x.label.core 2)) (find (λ arm. arm.branch == x.pair.addr) arms)
       where
         target : ℕ
         target = add16 (add16 x.pair.addr 2) (distance off)

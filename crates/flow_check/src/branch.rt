@@ -24,9 +24,6 @@ use arm_balance::{Arm, met, target};
 use flow_rule::{Label, Reason, Val};
 use insn_decode::Insn;
 
-/// The condition of a jump that is always taken.
-const ALWAYS: u8 = 7;
-
 /// A branch with its certificate.
 #[derive(Clone, Copy)]
 pub struct BranchSite {
@@ -40,7 +37,7 @@ fn is_same_jump(one: &Insn, other: &Insn) -> bool
     ensures { result ≡ true → one.now ≡ other.now }
 {
     match (*one, *other) {
-        (Insn::Jump { cond, offset }, Insn::Jump { cond: c, offset: o }) => cond == c
+        (Insn::Jump { condition, offset }, Insn::Jump { condition: c, offset: o }) => condition == c
             && offset == o,
         _ => false,
     }
@@ -82,8 +79,8 @@ fn site_at(insn: Option<Insn>, arms: &[Arm], pc: u16, flags: Val) -> Option<Bran
         return None;
     };
     match insn {
-        Insn::Jump { cond, offset } => {
-            if cond == ALWAYS || !is_secret(flags) {
+        Insn::Jump { condition, offset } => {
+            if condition.is_always() || !is_secret(flags) {
                 return None;
             }
             match find_arm(arms, pc) {

@@ -4,7 +4,7 @@ use Rattle.std.proofs.lemmas.Bool.{cases_lt}
 use Rattle.std.proofs.lemmas.List.{set_past, get_or_past}
 use Rattle.std.proofs.lemmas.Bool.Decides.{nat_tests}
 use Rattle.sm_words.specs.Words.{reg, put, kept, add16, nth}
-use Rattle.insn_decode.specs.Code.{length_of}
+use Rattle.insn_decode.specs.Code.{length_of, is_always}
 use Rattle.cycle_table.specs.Cycles.{cycles_of}
 use Rattle.cpu_step.specs.Effect.{value_of, into_register, set_flags, written, with_flags, confined_sr, does_freely, confined, jumps}
 use Rattle.insn_decode.specs.Code.{distance}
@@ -16,6 +16,7 @@ use Rattle.insn_decode.specs.declared.insn.OneOp.{OneOp}
 use Rattle.insn_decode.specs.declared.insn.OneOp.TheVariants.{Push, Call}
 use Rattle.insn_decode.specs.declared.insn.Operand.{Operand}
 use Rattle.insn_decode.specs.declared.insn.Operand.TheVariants.{Reg, Increment}
+use Rattle.insn_decode.specs.declared.insn.Condition.{Condition}
 use Rattle.insn_decode.specs.declared.insn.Insn.{Insn}
 use Rattle.insn_decode.specs.declared.insn.Insn.TheVariants.{Two, One, Jump, Reti, Unit as UnitOp}
 use Rattle.mod_layout.specs.declared.Module.{Module}
@@ -44,7 +45,7 @@ use Rattle.arm_balance.specs.Balance.{arm_next, met_cycles}
 use Rattle.flow_rule.proofs.Walks.{met_regs, met_words, MeetsJoin, time_to, walk_regs, walk_words, with_met, is_met, met_rest, on_time}
 use Rattle.flow_rule.proofs.Words.{NotIn, word, Shape, IsData, AgreeData}
 use Rattle.flow_rule.proofs.Runs.{at_rest, Passes, Stays, Crossing, Standing}
-use Rattle.flow_rule.proofs.Instruction.{AgreeAt, Single, Here, Gone, after, does_it, jump_so, past_pc, Parts, plain_parts, plain_kept, two_alike, one_alike, way_agrees, way_single, way_val, fetched}
+use Rattle.flow_rule.proofs.Instruction.{always_jumps, AgreeAt, Single, Here, Gone, after, does_it, jump_so, past_pc, Parts, plain_parts, plain_kept, two_alike, one_alike, way_agrees, way_single, way_val, fetched}
 use Rattle.flow_rule.proofs.Decoding.{met_regular, two_cycles_some}
 use Rattle.flow_rule.proofs.Open.{next_core, conf_reg}
 
@@ -214,14 +215,14 @@ module _ (terms : Terms) (key : List ℕ) (m : Module) (text : List ℕ) (caller
       let insn = One op w a in
       conf_long c (does_freely insn c vs).core ∙ written_long true a _ (stepped w a (past insn c)) ∙ stepped_long w a (past insn c) ∙ length-set c 0 _ ∙ long
 
-  is_seven : (a b c : Bool) (to next : ℕ) → cond (a && b && c) (Some to) None ≡ Some next → a ≡ true
-  is_seven true b c to next e = refl
-  is_seven false b c to next e = absurd cc
+  if_always : (a b c : Bool) (to next : ℕ) → cond (a && b && c) (Some to) None ≡ Some next → a ≡ true
+  if_always true b c to next e = refl
+  if_always false b c to next e = absurd cc
 
-  jump_move : (cn : ℕ) (off : ℤ) (x : Point) (c d : List ℕ) → AgreeAt m x c d c d → met m.text text x.pair.addr ≡ Some (Jump cn off) → (cn == 7) ≡ true → (step_jump terms m text (Jump cn off) cn x).violations ≡ [] →
+  jump_move : (cn : Condition) (off : ℤ) (x : Point) (c d : List ℕ) → AgreeAt m x c d c d → met m.text text x.pair.addr ≡ Some (Jump cn off) → is_always cn ≡ true → (step_jump terms m text (Jump cn off) cn x).violations ≡ [] →
       Moved x (step_jump terms m text (Jump cn off) cn x).gives c d (cycles_of (Jump cn off)) [] (met_words (Some (Jump cn off)) m x)
   unfolding does_val cycles_of asks plan
-  jump_move cn off x c d at e seven none = by (cn == 7) seven none
+  jump_move cn off x c d at e always none = by (is_always cn) always none
     where
       insn : Insn
       insn = Jump cn off
@@ -233,7 +234,7 @@ module _ (terms : Terms) (key : List ℕ) (m : Module) (text : List ℕ) (caller
       other = also (violation_if (is_secret (val x.label.core 2)) x.pair.addr SecretBranch 0) (both goes_on (goes terms m x.pair.addr x.pair.returns (past_val (Jump cn off) x.pair.addr x.label.core) x.label.words))
 
       taken : jumps cn (reg c 2) ≡ true
-      taken = let k : cn ≡ 7 = grind (arith, nat_tests) in ap (λ i. jumps i (reg c 2)) k
+      taken = always_jumps cn (reg c 2) always
 
       by : (t : Bool) → t ≡ true → (cond t goes_on other).violations ≡ [] → Moved x (cond t goes_on other).gives c d 2 [] (met_words (Some (Jump cn off)) m x)
       by false f none = absurd cc
@@ -280,7 +281,7 @@ module _ (terms : Terms) (key : List ℕ) (m : Module) (text : List ℕ) (caller
               let q = plain_parts terms key m text caller shape (One op w a) h x c d c d at e none in
               by_parts (One op w a) x (step_plain terms m text (One op w a) x).gives c d q r.1 _ _ (one_long op w a c q.values_a nc at.core.long_a)
               (λ k n0 n2 no. one_regs op w a c q.values_a k n0 n2 nc no) (λ i no. plain_kept terms key m text caller shape (One op w a) h x c d c d at e none i no)
-      by (Some (Jump cn off)) e on none = jump_move cn off x c d at e (is_seven (cn == 7) _ _ _ next on) none
+      by (Some (Jump cn off)) e on none = jump_move cn off x c d at e (if_always (is_always cn) _ _ _ next on) none
       by (Some Reti) e on none = absurd cc
       by (Some (UnitOp n)) e on none = absurd cc
 
@@ -502,12 +503,12 @@ module _ (s : Section) where
 
 -- ---- both arms
 module _ (terms : Terms) (key : List ℕ) (m : Module) (text : List ℕ) (caller : ℕ) (shape : Shape m) (S : Point → FlowStep) (refine : Refines terms key m text caller shape S) (At : Standing) (down : (x : Point) (ca da cb db : List ℕ) → At x ca da cb db → AgreeAt m x ca da cb db)
-    (up : (x : Point) (ca da cb db : List ℕ) → At x ca da cb db → (cn : ℕ) (off : ℤ) → met m.text text x.pair.addr ≡ Some (Jump cn off) → (y : Point) (pa qa pb qb : List ℕ) → kept 0 (add16 x.pair.addr 2) ≤ y.pair.addr → AgreeAt m y pa qa pb qb → At y pa qa pb qb)
+    (up : (x : Point) (ca da cb db : List ℕ) → At x ca da cb db → (cn : Condition) (off : ℤ) → met m.text text x.pair.addr ≡ Some (Jump cn off) → (y : Point) (pa qa pb qb : List ℕ) → kept 0 (add16 x.pair.addr 2) ≤ y.pair.addr → AgreeAt m y pa qa pb qb → At y pa qa pb qb)
     (base : (x : Point) (ca da cb db : List ℕ) → At x ca da cb db → (S x).violations ≡ [] → Crossing terms m (job_of key m text caller) At (S x).gives (at_rest ca da) (at_rest cb db)) where
   abbrev jj : Job
   jj = job_of key m text caller
 
-  module _ (cn : ℕ) (off : ℤ) (arm : Arm) (x : Point) (ca da cb db : List ℕ) (at : AgreeAt m x ca da cb db) (met_it : met m.text text x.pair.addr ≡ Some (Jump cn off)) (secret : is_secret (val x.label.core 2) ≡ true) where
+  module _ (cn : Condition) (off : ℤ) (arm : Arm) (x : Point) (ca da cb db : List ℕ) (at : AgreeAt m x ca da cb db) (met_it : met m.text text x.pair.addr ≡ Some (Jump cn off)) (secret : is_secret (val x.label.core 2) ≡ true) where
     abbrev pc0 : ℕ
     pc0 = x.pair.addr
 
@@ -717,13 +718,13 @@ module _ (terms : Terms) (key : List ℕ) (m : Module) (text : List ℕ) (caller
       plain : (S x).violations ≡ [] → Crossing terms m jj At (S x).gives (at_rest ca da) (at_rest cb db)
       plain none = base x ca da cb db at none
 
-      found : (cn : ℕ) (off : ℤ) → met m.text text x.pair.addr ≡ Some (Jump cn off) → is_secret (val x.label.core 2) ≡ true → (o : Option Arm) →
+      found : (cn : Condition) (off : ℤ) → met m.text text x.pair.addr ≡ Some (Jump cn off) → is_secret (val x.label.core 2) ≡ true → (o : Option Arm) →
           (step_branch o S m text (Jump cn off) x (add16 (add16 x.pair.addr 2) (distance off))).violations ≡ [] →
           Crossing terms m jj At (step_branch o S m text (Jump cn off) x (add16 (add16 x.pair.addr 2) (distance off))).gives (at_rest ca da) (at_rest cb db)
       found cn off e s None none = plain none
       found cn off e s (Some arm) none = arm_crossing cn off arm x ca da cb db (down x ca da cb db at) e s at none
 
-      jump_by : (cn : ℕ) (off : ℤ) → met m.text text x.pair.addr ≡ Some (Jump cn off) → (a b : Bool) → is_secret (val x.label.core 2) ≡ b →
+      jump_by : (cn : Condition) (off : ℤ) → met m.text text x.pair.addr ≡ Some (Jump cn off) → (a b : Bool) → is_secret (val x.label.core 2) ≡ b →
           (cond (a && b) (step_branch (find (λ arm. arm.branch == x.pair.addr) arms) S m text (Jump cn off) x (add16 (add16 x.pair.addr 2) (distance off))) (S x)).violations ≡ [] →
           Crossing terms m jj At (cond (a && b) (step_branch (find (λ arm. arm.branch == x.pair.addr) arms) S m text (Jump cn off) x (add16 (add16 x.pair.addr 2) (distance off))) (S x)).gives (at_rest ca da) (at_rest cb db)
       jump_by cn off e true true s none = found cn off e s (find (λ arm. arm.branch == x.pair.addr) arms) none
@@ -731,5 +732,5 @@ module _ (terms : Terms) (key : List ℕ) (m : Module) (text : List ℕ) (caller
       jump_by cn off e false b s none = plain none
 
       by : (o : Option Insn) → met m.text text x.pair.addr ≡ o → (step_arms_by o S arms m text x).violations ≡ [] → Crossing terms m jj At (step_arms_by o S arms m text x).gives (at_rest ca da) (at_rest cb db)
-      by (Some (Jump cn off)) e none = jump_by cn off e (not (cn == 7)) (is_secret (val x.label.core 2)) refl none
+      by (Some (Jump cn off)) e none = jump_by cn off e (not (is_always cn)) (is_secret (val x.label.core 2)) refl none
       by _ e none = plain none

@@ -12,6 +12,8 @@ use Rattle.cpu_step.specs.Plan.{plan, past}
 use Rattle.sm_words.specs.declared.width.Width.TheVariants.{Word}
 use Rattle.insn_decode.specs.declared.insn.TwoOp.TheVariants.{Mov, Cmp}
 use Rattle.insn_decode.specs.declared.insn.Operand.TheVariants.{Reg, Const, Imm}
+use Rattle.insn_decode.specs.declared.insn.Condition.{Condition}
+use Rattle.insn_decode.specs.declared.insn.Condition.TheVariants.{NoCarry, Carry, Always}
 use Rattle.insn_decode.specs.declared.insn.Insn.{Insn}
 use Rattle.insn_decode.specs.declared.insn.Insn.TheVariants.{Two, Jump}
 use Rattle.mod_layout.specs.declared.Module.{Module}
@@ -101,10 +103,10 @@ carry_says x v hx hv b e = by b e
     by false q = let s = sum in let g : low Word (low Word v) + low Word (complement Word (low Word x)) + 1 < 65536 = grind (arith, nat_tests) in omega arith
 
 -- a jump
-abbrev jump_core : ℕ → ℤ → Bool → List ℕ → List ℕ
+abbrev jump_core : Condition → ℤ → Bool → List ℕ → List ℕ
 jump_core k off t c = confined true c (cond t (put (past (Jump k off) c) 0 (add16 (reg (past (Jump k off) c) 0) (distance off))) (past (Jump k off) c))
 
-jump_calm : (k : ℕ) (off : ℤ) (pc to six seven : ℕ) (c : List ℕ) (t : Bool) → pc % 2 ≡ 0 → pc + 2 < 65536 → kept 0 (add16 (pc + 2) (distance off)) ≡ to → Calm c pc six seven → Calm (jump_core k off t c) (cond t to (pc + 2)) six seven
+jump_calm : (k : Condition) (off : ℤ) (pc to six seven : ℕ) (c : List ℕ) (t : Bool) → pc % 2 ≡ 0 → pc + 2 < 65536 → kept 0 (add16 (pc + 2) (distance off)) ≡ to → Calm c pc six seven → Calm (jump_core k off t c) (cond t to (pc + 2)) six seven
 jump_calm k off pc to six seven c true ev small e h =
     let p = past_calm (Jump k off) 1 pc six seven c refl ev small h in
     let c1 = past (Jump k off) c in
@@ -153,26 +155,26 @@ module _ (terms : Terms) (key : List ℕ) (m : Module) (text : List ℕ) (caller
   before_cmp x r k c lt e met_it h =
       before (compares x r) c (next_core (compares x r) c []) (cycles_of (compares x r) - 1) (does_at (compares x r) k c da lt e met_it refl refl) (does_at (compares x r) k c db lt e met_it refl refl) refl refl h
 
-  before_jump : (cn : ℕ) (off : ℤ) (k : ℕ) (c : List ℕ) (t : Bool) → k < 38 → reg c 0 ≡ t0 + 2 * k → met m.text text (t0 + 2 * k) ≡ Some (Jump cn off) → jumps cn (reg c 2) ≡ t → Alike (jump_core cn off t c) → Alike c
+  before_jump : (cn : Condition) (off : ℤ) (k : ℕ) (c : List ℕ) (t : Bool) → k < 38 → reg c 0 ≡ t0 + 2 * k → met m.text text (t0 + 2 * k) ≡ Some (Jump cn off) → jumps cn (reg c 2) ≡ t → Alike (jump_core cn off t c) → Alike c
   unfolding asks plan
   before_jump cn off k c t lt e met_it et h =
       before (Jump cn off) c (jump_core cn off t c) 1 (does_at (Jump cn off) k c da lt e met_it refl refl) (does_at (Jump cn off) k c db lt e met_it refl refl)
       (jump_so terms key m text caller shape cn off c da ∙ ap (λ t. after (jump_core cn off t c) da 1 false) et) (jump_so terms key m text caller shape cn off c db ∙ ap (λ t. after (jump_core cn off t c) db 1 false) et) h
 
   -- ---- the instructions
-  met_2 : met m.text text (t0 + 4) ≡ Some (Jump 2 (pos 4))
+  met_2 : met m.text text (t0 + 4) ≡ Some (Jump NoCarry (pos 4))
   unfolding insn_of
   met_2 = met_one m text (t0 + 4) 0x2804 _ (word_is 2 0x2804 (omega arith) refl) refl refl
 
-  met_5 : met m.text text (t0 + 10) ≡ Some (Jump 3 (pos 1))
+  met_5 : met m.text text (t0 + 10) ≡ Some (Jump Carry (pos 1))
   unfolding insn_of
   met_5 = met_one m text (t0 + 10) 0x2c01 _ (word_is 5 0x2c01 (omega arith) refl) refl refl
 
-  met_6 : met m.text text (t0 + 12) ≡ Some (Jump 7 (negsuc 0))
+  met_6 : met m.text text (t0 + 12) ≡ Some (Jump Always (negsuc 0))
   unfolding insn_of
   met_6 = met_one m text (t0 + 12) 0x3fff _ (word_is 6 0x3fff (omega arith) refl) refl refl
 
-  met_9 : met m.text text (t0 + 18) ≡ Some (Jump 3 (pos 26))
+  met_9 : met m.text text (t0 + 18) ≡ Some (Jump Carry (pos 26))
   unfolding insn_of
   met_9 = met_one m text (t0 + 18) 0x2c1a _ (word_is 9 0x2c1a (omega arith) refl) refl refl
 
@@ -206,16 +208,16 @@ module _ (terms : Terms) (key : List ℕ) (m : Module) (text : List ℕ) (caller
   unfolding asks plan
   loops_by zero c d six seven h i lt = absurd (omega arith)
   loops_by (suc fuel) c d six seven h i lt =
-      let c' = jump_core 7 (negsuc 0) true c in
+      let c' = jump_core Always (negsuc 0) true c in
       let goes : kept 0 (add16 (t0 + 12 + 2) (distance (negsuc 0))) ≡ t0 + 12 = back in
-      let h' : Calm c' (t0 + 12) six seven = jump_calm 7 (negsuc 0) (t0 + 12) (t0 + 12) six seven c true (even_at 6) (omega (arith, small_at 6)) goes h in
-      let pass = does_it j c d c' d (Jump 7 (negsuc 0)) 1 false (does_at (Jump 7 (negsuc 0)) 6 c d (omega arith) h.here met_6 refl refl) (jump_so terms key m text caller shape 7 (negsuc 0) c d) in
+      let h' : Calm c' (t0 + 12) six seven = jump_calm Always (negsuc 0) (t0 + 12) (t0 + 12) six seven c true (even_at 6) (omega (arith, small_at 6)) goes h in
+      let pass = does_it j c d c' d (Jump Always (negsuc 0)) 1 false (does_at (Jump Always (negsuc 0)) 6 c d (omega arith) h.here met_6 refl refl) (jump_so terms key m text caller shape Always (negsuc 0) c d) in
       by (cases_lt i 2) pass (λ i lt. loops_by fuel c' d six seven h' i lt)
     where
       back : kept 0 (add16 (t0 + 12 + 2) (distance (negsuc 0))) ≡ t0 + 12
       back = let a = small_at 6 (omega arith) in let b = shape.text_start in omega arith
 
-      by : (i < 2) ⊎ (2 ≤ i) → Passes j 2 (at_rest c d) (at_rest (jump_core 7 (negsuc 0) true c) d) → ((i : ℕ) → i < fuel → outcome j i (at_rest (jump_core 7 (negsuc 0) true c) d) ≡ Running) → outcome j i (at_rest c d) ≡ Running
+      by : (i < 2) ⊎ (2 ≤ i) → Passes j 2 (at_rest c d) (at_rest (jump_core Always (negsuc 0) true c) d) → ((i : ℕ) → i < fuel → outcome j i (at_rest (jump_core Always (negsuc 0) true c) d) ≡ Running) → outcome j i (at_rest c d) ≡ Running
       by (inl near) pass go = passes_near j 2 _ _ pass i near
       by (inr far) pass go =
           let e : 2 + (i - 2) ≡ i = omega arith in
@@ -271,19 +273,19 @@ module _ (terms : Terms) (key : List ℕ) (m : Module) (text : List ℕ) (caller
       where
         turn : (c1 : List ℕ) → reg c1 0 ≡ t0 + 18 → Calm c1 (t0 + 18) six seven → bit 1 (reg c1 2) ≡ one_if (carry_of n six) → (b : Bool) → carry_of n six ≡ b → ((b : Bool) → carry_of n six ≡ b → cond b (n ≤ six) (six < n)) → Alike c1
         turn c1 here h carry true e says =
-            before_jump 3 (pos 26) 9 c1 true (omega arith) here met_9 (ap (λ b. b == 1) carry ∙ ap (λ b. one_if b == 1) e)
-            (exits _ (jump_calm 3 (pos 26) (t0 + 18) (t0 + 72) six seven c1 true (even_at 9) (omega (arith, small_at 9)) far h))
+            before_jump Carry (pos 26) 9 c1 true (omega arith) here met_9 (ap (λ b. b == 1) carry ∙ ap (λ b. one_if b == 1) e)
+            (exits _ (jump_calm Carry (pos 26) (t0 + 18) (t0 + 72) six seven c1 true (even_at 9) (omega (arith, small_at 9)) far h))
           where
             far : kept 0 (add16 (t0 + 18 + 2) (distance (pos 26))) ≡ t0 + 72
             far = let a = small_at 36 (omega arith) in let b = shape.text_start in omega arith
         turn c1 here h carry false e says =
-            before_jump 3 (pos 26) 9 c1 false (omega arith) here met_9 (ap (λ b. b == 1) carry ∙ ap (λ b. one_if b == 1) e)
-            (next (jump_calm 3 (pos 26) (t0 + 18) (t0 + 72) six seven c1 false (even_at 9) (omega (arith, small_at 9)) far h))
+            before_jump Carry (pos 26) 9 c1 false (omega arith) here met_9 (ap (λ b. b == 1) carry ∙ ap (λ b. one_if b == 1) e)
+            (next (jump_calm Carry (pos 26) (t0 + 18) (t0 + 72) six seven c1 false (even_at 9) (omega (arith, small_at 9)) far h))
           where
             far : kept 0 (add16 (t0 + 18 + 2) (distance (pos 26))) ≡ t0 + 72
             far = let a = small_at 36 (omega arith) in let b = shape.text_start in omega arith
 
-            next : Calm (jump_core 3 (pos 26) false c1) (t0 + 18 + 2) six seven → Alike (jump_core 3 (pos 26) false c1)
+            next : Calm (jump_core Carry (pos 26) false c1) (t0 + 18 + 2) six seven → Alike (jump_core Carry (pos 26) false c1)
             next h = go _ (record { long = h.long; nine = h.nine; three = h.three; six_is = h.six_is; seven_is = h.seven_is; here = h.here ∙ (let e : t0 + 18 + 2 ≡ t0 + 20 = omega arith in e) }) (says false e)
 
 module _ (terms : Terms) (key : List ℕ) (m : Module) (text : List ℕ) (caller : ℕ) (shape : Shape m) (n p : ℕ) (facts : StubFacts m text n p) (R : List ℕ → List ℕ → Type 0) (da db : List ℕ) (six seven : ℕ) (small6 : six < 65536) (small7 : seven < 65536)
@@ -336,11 +338,11 @@ module _ (terms : Terms) (key : List ℕ) (m : Module) (text : List ℕ) (caller
 
       turn : (c1 : List ℕ) → Calm c1 (k0 + 10) six seven → bit 1 (reg c1 2) ≡ one_if (carry_of m.text.end seven) → (b : Bool) → carry_of m.text.end seven ≡ b → cond (carry_of m.text.end seven) (m.text.end ≤ seven) (seven < m.text.end) → Ends_alike c1
       turn c1 h carry true e says =
-          before_jump terms key m text caller shape n p facts R da db 3 (pos 1) 5 c1 true (omega arith) h.here (met_5 terms key m text caller shape n p facts R da db) (ap (λ b. b == 1) carry ∙ ap (λ b. one_if b == 1) e)
-          (seven_on (out_high (subst (λ b. cond b (m.text.end ≤ seven) (seven < m.text.end)) e says)) _ (jump_calm 3 (pos 1) (k0 + 10) (k0 + 14) six seven c1 true (even_k 5) (omega (arith, small_k 5)) far h))
+          before_jump terms key m text caller shape n p facts R da db Carry (pos 1) 5 c1 true (omega arith) h.here (met_5 terms key m text caller shape n p facts R da db) (ap (λ b. b == 1) carry ∙ ap (λ b. one_if b == 1) e)
+          (seven_on (out_high (subst (λ b. cond b (m.text.end ≤ seven) (seven < m.text.end)) e says)) _ (jump_calm Carry (pos 1) (k0 + 10) (k0 + 14) six seven c1 true (even_k 5) (omega (arith, small_k 5)) far h))
       turn c1 h carry false e says =
-          before_jump terms key m text caller shape n p facts R da db 3 (pos 1) 5 c1 false (omega arith) h.here (met_5 terms key m text caller shape n p facts R da db) (ap (λ b. b == 1) carry ∙ ap (λ b. one_if b == 1) e)
-          (loops terms key m text caller shape n p facts R da db _ six seven (moved _ (k0 + 10 + 2) (k0 + 12) (omega arith) (jump_calm 3 (pos 1) (k0 + 10) (k0 + 14) six seven c1 false (even_k 5) (omega (arith, small_k 5)) far h)))
+          before_jump terms key m text caller shape n p facts R da db Carry (pos 1) 5 c1 false (omega arith) h.here (met_5 terms key m text caller shape n p facts R da db) (ap (λ b. b == 1) carry ∙ ap (λ b. one_if b == 1) e)
+          (loops terms key m text caller shape n p facts R da db _ six seven (moved _ (k0 + 10 + 2) (k0 + 12) (omega arith) (jump_calm Carry (pos 1) (k0 + 10) (k0 + 14) six seven c1 false (even_k 5) (omega (arith, small_k 5)) far h)))
 
   pub from_0 : (c : List ℕ) → Calm c (k0 + 0) six seven → Ends_alike c
   from_0 c h =
@@ -355,8 +357,8 @@ module _ (terms : Terms) (key : List ℕ) (m : Module) (text : List ℕ) (caller
 
       turn : (c1 : List ℕ) → Calm c1 (k0 + 4) six seven → bit 1 (reg c1 2) ≡ one_if (carry_of k0 seven) → (b : Bool) → carry_of k0 seven ≡ b → cond (carry_of k0 seven) (k0 ≤ seven) (seven < k0) → Ends_alike c1
       turn c1 h carry false e says =
-          before_jump terms key m text caller shape n p facts R da db 2 (pos 4) 2 c1 true (omega arith) h.here (met_2 terms key m text caller shape n p facts R da db) (ap (λ b. b == 0) carry ∙ ap (λ b. one_if b == 0) e)
-          (seven_on (out_low (subst (λ b. cond b (k0 ≤ seven) (seven < k0)) e says)) _ (jump_calm 2 (pos 4) (k0 + 4) (k0 + 14) six seven c1 true (even_k 2) (omega (arith, small_k 5)) far h))
+          before_jump terms key m text caller shape n p facts R da db NoCarry (pos 4) 2 c1 true (omega arith) h.here (met_2 terms key m text caller shape n p facts R da db) (ap (λ b. b == 0) carry ∙ ap (λ b. one_if b == 0) e)
+          (seven_on (out_low (subst (λ b. cond b (k0 ≤ seven) (seven < k0)) e says)) _ (jump_calm NoCarry (pos 4) (k0 + 4) (k0 + 14) six seven c1 true (even_k 2) (omega (arith, small_k 5)) far h))
       turn c1 h carry true e says =
-          before_jump terms key m text caller shape n p facts R da db 2 (pos 4) 2 c1 false (omega arith) h.here (met_2 terms key m text caller shape n p facts R da db) (ap (λ b. b == 0) carry ∙ ap (λ b. one_if b == 0) e)
-          (from_3 _ (moved _ (k0 + 4 + 2) (k0 + 6) (omega arith) (jump_calm 2 (pos 4) (k0 + 4) (k0 + 14) six seven c1 false (even_k 2) (omega (arith, small_k 5)) far h)))
+          before_jump terms key m text caller shape n p facts R da db NoCarry (pos 4) 2 c1 false (omega arith) h.here (met_2 terms key m text caller shape n p facts R da db) (ap (λ b. b == 0) carry ∙ ap (λ b. one_if b == 0) e)
+          (from_3 _ (moved _ (k0 + 4 + 2) (k0 + 6) (omega arith) (jump_calm NoCarry (pos 4) (k0 + 4) (k0 + 14) six seven c1 false (even_k 2) (omega (arith, small_k 5)) far h)))

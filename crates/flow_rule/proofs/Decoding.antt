@@ -4,8 +4,9 @@ use Rattle.std.proofs.Common.{◌≡◌, ◌≢◌, ℕ, zero, suc, ◌<◌, ◌
 use Rattle.std.specs.Prelude.{slice_get, option_and_then, option_map}
 use Rattle.std.proofs.lemmas.Bool.Decides.{nat_tests}
 use Rattle.sm_words.specs.Words.{word_at, nth}
+use Rattle.insn_decode.specs.declared.insn.Condition.{Condition}
 use Rattle.insn_decode.specs.declared.insn.UnitName.{UnitName}
-use Rattle.insn_decode.specs.Code.{source_row, source_of, dest_of, words_of, width_of, two_ops, one_ops, unit_ops, two_of, one_fits, one_of, insn_of, length_of, offset_of}
+use Rattle.insn_decode.specs.Code.{source_row, source_of, dest_of, words_of, width_of, two_ops, one_ops, conditions, unit_ops, two_of, one_fits, one_of, jump_of, insn_of, length_of, offset_of}
 use Rattle.sm_words.specs.declared.width.Width.{Width}
 use Rattle.insn_decode.specs.declared.insn.TwoOp.{TwoOp}
 use Rattle.insn_decode.specs.declared.insn.OneOp.{OneOp}
@@ -102,6 +103,10 @@ one_fine (Some op) w0 w1 = by (source_of ((w0 / 16) % 4) (w0 % 16) w1) (source_g
         fits true e = fine_some (One op (width_of ((w0 / 64) % 2)) a) (h a refl, one_cycles_some op (width_of ((w0 / 64) % 2)) a e)
         fits false e = fine_none
 
+jump_fine : (condition : Option Condition) (w0 : ℕ) → Fine (jump_of condition w0)
+jump_fine None w0 = fine_none
+jump_fine (Some condition) w0 = fine_some (Jump condition (offset_of (w0 % 1024))) tt
+
 unit_fine : (name : Option UnitName) → Fine (option_map UnitOp name)
 unit_fine None = fine_none
 unit_fine (Some name) = fine_some (UnitOp name) tt
@@ -110,7 +115,7 @@ pub insn_fine : (w0 w1 w2 : ℕ) → Fine (insn_of w0 w1 w2)
 unfolding insn_of
 insn_fine w0 w1 w2 =
     fine_if (nat_lt 16383 w0) _ _ (two_fine (slice_get two_ops (w0 / 4096 - 4)) w0 w1 w2)
-    (fine_if (w0 / 8192 == 1) _ _ (fine_some (Jump ((w0 / 1024) % 8) (offset_of (w0 % 1024))) tt)
+    (fine_if (w0 / 8192 == 1) _ _ (jump_fine (slice_get conditions ((w0 / 1024) % 8)) w0)
     (fine_if (w0 == 4864) _ _ (fine_some Reti tt)
     (fine_if (nat_lt 4991 w0 && nat_lt w0 4999) _ _ (unit_fine (slice_get unit_ops (w0 - 4992)))
     (fine_if (w0 / 1024 == 4) _ _ (one_fine (slice_get one_ops ((w0 / 128) % 8)) w0 w1) fine_none))))

@@ -1,8 +1,7 @@
 -- One instruction of two runs that stand at one point.
-use Rattle.std.proofs.Common.{◌≡◌, inl, ℕ, zero, suc, ◌+◌, ◌-◌, ◌*◌, ◌/◌, ◌%◌, ◌<◌, List, [], ◌∷◌, ◌++◌, length, map, refl, sym, ap, ◌∙◌, subst, arith, Bool, true, false, cond, nat_lt, ◌==◌, ◌&&◌, ◌||◌, not, Option, Some, None, get_or-set_same, length-set, ℤ}
-use Rattle.std.proofs.lemmas.Bool.Decides.{nat_tests}
+use Rattle.std.proofs.Common.{◌≡◌, inl, ℕ, zero, suc, ◌+◌, ◌-◌, ◌*◌, ◌/◌, ◌%◌, ◌<◌, List, [], ◌∷◌, ◌++◌, length, map, refl, sym, ap, ◌∙◌, subst, arith, Bool, true, false, cond, nat_lt, ◌&&◌, ◌||◌, not, Option, Some, None, get_or-set_same, length-set, ℤ}
 use Rattle.sm_words.specs.Words.{reg, put, kept, add16, word_at}
-use Rattle.insn_decode.specs.Code.{insn_of, length_of}
+use Rattle.insn_decode.specs.Code.{insn_of, length_of, is_always}
 use Rattle.cycle_table.specs.Cycles.{cycles_of}
 use Rattle.cpu_step.specs.Effect.{jumped, does, does_freely, confined, jumps}
 use Rattle.insn_decode.specs.Code.{distance}
@@ -11,6 +10,8 @@ use Rattle.sm_words.specs.declared.width.Width.{Width}
 use Rattle.insn_decode.specs.declared.insn.TwoOp.{TwoOp}
 use Rattle.insn_decode.specs.declared.insn.OneOp.{OneOp}
 use Rattle.insn_decode.specs.declared.insn.Operand.{Operand}
+use Rattle.insn_decode.specs.declared.insn.Condition.{Condition}
+use Rattle.insn_decode.specs.declared.insn.Condition.TheVariants.{Always}
 use Rattle.insn_decode.specs.declared.insn.Insn.{Insn}
 use Rattle.insn_decode.specs.declared.insn.Insn.TheVariants.{Two, One, Jump, Reti, Unit as UnitOp}
 use Rattle.pc_access.specs.declared.Access.{Access}
@@ -44,6 +45,11 @@ use Rattle.flow_rule.proofs.Words.{NotIn, word, writes_keep, Shape, IsData, Agre
 use Rattle.flow_rule.proofs.Telling.{on_list, blanked, same_reg, same_but, agrees_on}
 use Rattle.flow_rule.proofs.Labelling.{Under, Among, among_left, among_right}
 use Rattle.flow_rule.proofs.Runs.{at_rest, Busy, Passes, Ending, Stays, Left, Shut, Crossing}
+
+-- a jump under the condition that always holds is taken
+pub always_jumps : (c : Condition) (sr : ℕ) → is_always c ≡ true → jumps c sr ≡ true
+always_jumps Always sr e = refl
+always_jumps _ sr e = absurd cc
 
 pub record AgreeAt (m : Module) (x : Point) (ca da cb db : List ℕ) : Type 0 where
   pub pc_a : reg ca 0 ≡ x.pair.addr
@@ -342,10 +348,10 @@ module _ (terms : Terms) (key : List ℕ) (m : Module) (text : List ℕ) (caller
   jumped_is true off c = refl
   jumped_is false off c = refl
 
-  pub jump_so : (cond_no : ℕ) (off : ℤ) (c d : List ℕ) →
-      lone_does j (Jump cond_no off) (at_rest c d) ≡ after (confined true c (cond (jumps cond_no (reg c 2)) (put (past (Jump cond_no off) c) 0 (add16 (reg (past (Jump cond_no off) c) 0) (distance off))) (past (Jump cond_no off) c))) d 1 false
+  pub jump_so : (cn : Condition) (off : ℤ) (c d : List ℕ) →
+      lone_does j (Jump cn off) (at_rest c d) ≡ after (confined true c (cond (jumps cn (reg c 2)) (put (past (Jump cn off) c) 0 (add16 (reg (past (Jump cn off) c) 0) (distance off))) (past (Jump cn off) c))) d 1 false
   unfolding lone_does asks effect does does_freely plan cycles_of
-  jump_so cond_no off c d = ap (λ x. after (confined true c x) d 1 false) (jumped_is (jumps cond_no (reg c 2)) off (past (Jump cond_no off) c))
+  jump_so cn off c d = ap (λ x. after (confined true c x) d 1 false) (jumped_is (jumps cn (reg c 2)) off (past (Jump cn off) c))
 
   pub past_pc : (insn : Insn) (pc : ℕ) (c : List ℕ) → length_of insn ≡ 1 → reg c 0 ≡ pc → pc % 2 ≡ 0 → length c ≡ 16 → reg (past insn c) 0 ≡ add16 pc 2
   past_pc insn pc c one e ev len =
@@ -355,9 +361,9 @@ module _ (terms : Terms) (key : List ℕ) (m : Module) (text : List ℕ) (caller
       even_kept : kept 0 (add16 pc (2 * 1)) ≡ add16 pc 2
       even_kept = omega arith
 
-  module _ (cond_no : ℕ) (off : ℤ) (x : Point) (ca da cb db : List ℕ) (at : AgreeAt m x ca da cb db) (met_it : met m.text text x.pair.addr ≡ Some (Jump cond_no off)) where
+  module _ (cn : Condition) (off : ℤ) (x : Point) (ca da cb db : List ℕ) (at : AgreeAt m x ca da cb db) (met_it : met m.text text x.pair.addr ≡ Some (Jump cn off)) where
     abbrev pub insn : Insn
-    insn = Jump cond_no off
+    insn = Jump cn off
 
     abbrev pub pc : ℕ
     pc = x.pair.addr
@@ -389,14 +395,14 @@ module _ (terms : Terms) (key : List ℕ) (m : Module) (text : List ℕ) (caller
         confined_agrees m.text even _ ca cb (past insn ca) (past insn cb) at.core.mode_same
         (ends_so m.text even _ _ _ _ _ h1 (put_other_reg ca 0 _ 2 (λ e. absurd (omega arith))) (put_other_reg cb 0 _ 2 (λ e. absurd (omega arith))))
 
-    pub way_crossing : (t : Bool) (gives : List Point) → jumps cond_no (reg ca 2) ≡ t → jumps cond_no (reg cb 2) ≡ t → Landing terms m gives (way t ca) da (way t cb) db → Crossing terms m j (AgreeAt m) gives (at_rest ca da) (at_rest cb db)
+    pub way_crossing : (t : Bool) (gives : List Point) → jumps cn (reg ca 2) ≡ t → jumps cn (reg cb 2) ≡ t → Landing terms m gives (way t ca) da (way t cb) db → Crossing terms m j (AgreeAt m) gives (at_rest ca da) (at_rest cb db)
     unfolding asks plan
     way_crossing t gives ea eb l =
         let ev_b : reg cb 0 % 2 ≡ 0 = ap (λ i. i % 2) (at.pc_b ∙ sym at.pc_a) ∙ at.core.even_pc in
         crossing gives ca da cb db (way t ca) da (way t cb) db insn 1
         (fetched ca da insn at.core.even_pc (ap (λ a. holds m.text a) at.pc_a ∙ at.in_text) (ap (λ a. met m.text text a) at.pc_a ∙ met_it) refl refl)
         (fetched cb db insn ev_b (ap (λ a. holds m.text a) at.pc_b ∙ at.in_text) (ap (λ a. met m.text text a) at.pc_b ∙ met_it) refl refl)
-        (jump_so cond_no off ca da ∙ ap (λ t. after (way t ca) da 1 false) ea) (jump_so cond_no off cb db ∙ ap (λ t. after (way t cb) db 1 false) eb) l
+        (jump_so cn off ca da ∙ ap (λ t. after (way t ca) da 1 false) ea) (jump_so cn off cb db ∙ ap (λ t. after (way t cb) db 1 false) eb) l
 
     abbrev pub way_goes : Bool → FlowStep
     way_goes t = goes terms m pc x.pair.returns (way_val t) x.label.words
@@ -408,25 +414,24 @@ module _ (terms : Terms) (key : List ℕ) (m : Module) (text : List ℕ) (caller
         Landing terms m (way_goes t).gives (way t ca) da (way t cb) db
     way_lands t e = landing_of terms m _ _ _ _ _ (way_single t e)
 
-    jump_crossing : (step_jump terms m text insn cond_no x).violations ≡ [] → Crossing terms m j (AgreeAt m) (step_jump terms m text insn cond_no x).gives (at_rest ca da) (at_rest cb db)
+    jump_crossing : (step_jump terms m text insn cn x).violations ≡ [] → Crossing terms m j (AgreeAt m) (step_jump terms m text insn cn x).gives (at_rest ca da) (at_rest cb db)
     unfolding does_val
-    jump_crossing none = by (cond_no == 7) refl none
+    jump_crossing none = by (is_always cn) refl none
       where
         abbrev_either : FlowStep
         abbrev_either = also (violation_if (is_secret (val x.label.core 2)) pc SecretBranch 0) (both (way_goes true) (way_goes false))
 
-        by : (c : Bool) → (cond_no == 7) ≡ c → (cond c (way_goes true) (also (violation_if (is_secret (val x.label.core 2)) pc SecretBranch 0) (both (way_goes true) (way_goes false)))).violations ≡ [] →
+        by : (c : Bool) → is_always cn ≡ c → (cond c (way_goes true) (also (violation_if (is_secret (val x.label.core 2)) pc SecretBranch 0) (both (way_goes true) (way_goes false)))).violations ≡ [] →
             Crossing terms m j (AgreeAt m) (cond c (way_goes true) (also (violation_if (is_secret (val x.label.core 2)) pc SecretBranch 0) (both (way_goes true) (way_goes false)))).gives (at_rest ca da) (at_rest cb db)
         by true e none =
-            let k : cond_no ≡ 7 = grind (arith, nat_tests) in
-            way_crossing true (way_goes true).gives (ap (λ i. jumps i (reg ca 2)) k) (ap (λ i. jumps i (reg cb 2)) k) (way_lands true none)
+            way_crossing true (way_goes true).gives (always_jumps cn (reg ca 2) e) (always_jumps cn (reg cb 2) e) (way_lands true none)
         by false e none =
             let n1 = none_left (violation_if (is_secret (val x.label.core 2)) pc SecretBranch 0) ((way_goes true).violations ++ (way_goes false).violations) none in
             let n2 = none_right (violation_if (is_secret (val x.label.core 2)) pc SecretBranch 0) ((way_goes true).violations ++ (way_goes false).violations) none in
             let sr : reg ca 2 ≡ reg cb 2 = same m.text (val x.label.core 2) (reg ca 2) (reg cb 2) (at.core.at 2) (none_if (is_secret (val x.label.core 2)) pc SecretBranch 0 n1) in
-            turn (jumps cond_no (reg ca 2)) refl (ap (λ i. jumps cond_no i) (sym sr)) (none_left (way_goes true).violations (way_goes false).violations n2) (none_right (way_goes true).violations (way_goes false).violations n2)
+            turn (jumps cn (reg ca 2)) refl (ap (λ i. jumps cn i) (sym sr)) (none_left (way_goes true).violations (way_goes false).violations n2) (none_right (way_goes true).violations (way_goes false).violations n2)
           where
-            turn : (t : Bool) → jumps cond_no (reg ca 2) ≡ t → jumps cond_no (reg cb 2) ≡ jumps cond_no (reg ca 2) → (way_goes true).violations ≡ [] → (way_goes false).violations ≡ [] →
+            turn : (t : Bool) → jumps cn (reg ca 2) ≡ t → jumps cn (reg cb 2) ≡ jumps cn (reg ca 2) → (way_goes true).violations ≡ [] → (way_goes false).violations ≡ [] →
                 Crossing terms m j (AgreeAt m) ((way_goes true).gives ++ (way_goes false).gives) (at_rest ca da) (at_rest cb db)
             turn true ea eb p q = way_crossing true _ ea (eb ∙ ea) (land_left terms m (way_goes true).gives (way_goes false).gives _ _ _ _ (way_lands true p))
             turn false ea eb p q = way_crossing false _ ea (eb ∙ ea) (land_right terms m (way_goes true).gives (way_goes false).gives _ _ _ _ (way_lands false q))

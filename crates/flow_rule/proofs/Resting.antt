@@ -2,7 +2,7 @@
 use Rattle.std.proofs.Common.{◌≡◌, ℕ, zero, suc, ◌+◌, ◌*◌, ◌%◌, ◌≤◌, List, [], ◌∷◌, ◌++◌, map, refl, sym, ap, ◌∙◌, subst, arith, Bool, true, false, cond, nat_lt, ◌==◌, ◌&&◌, not, Option, Some, None, ℤ}
 use Rattle.std.proofs.lemmas.Bool.Decides.{nat_tests}
 use Rattle.sm_words.specs.Words.{nth, kept, add16, word_at}
-use Rattle.insn_decode.specs.Code.{insn_of}
+use Rattle.insn_decode.specs.Code.{insn_of, is_always}
 use Rattle.sm_words.specs.declared.width.Width.{Width}
 use Rattle.sm_words.specs.declared.width.Width.TheVariants.{Word}
 use Rattle.insn_decode.specs.declared.insn.TwoOp.{TwoOp}
@@ -11,6 +11,7 @@ use Rattle.insn_decode.specs.declared.insn.OneOp.{OneOp}
 use Rattle.insn_decode.specs.declared.insn.OneOp.TheVariants.{Call}
 use Rattle.insn_decode.specs.declared.insn.Operand.{Operand}
 use Rattle.insn_decode.specs.declared.insn.Operand.TheVariants.{Reg, Increment}
+use Rattle.insn_decode.specs.declared.insn.Condition.{Condition}
 use Rattle.insn_decode.specs.declared.insn.Insn.{Insn}
 use Rattle.insn_decode.specs.declared.insn.Insn.TheVariants.{Two, One, Jump, Reti, Unit as UnitOp}
 use Rattle.mod_layout.specs.declared.Module.{Module}
@@ -110,9 +111,9 @@ if_first : (a b : Bool) (to next : ℕ) → cond (a && b) (Some to) None ≡ Som
 if_first true b to next e = refl
 if_first false b to next e = absurd cc
 
-if_seven : (a b c : Bool) (to next : ℕ) → cond (a && b && c) (Some to) None ≡ Some next → a ≡ true
-if_seven true b c to next e = refl
-if_seven false b c to next e = absurd cc
+if_always : (a b c : Bool) (to next : ℕ) → cond (a && b && c) (Some to) None ≡ Some next → a ≡ true
+if_always true b c to next e = refl
+if_always false b c to next e = absurd cc
 
 two_quiet : (join pc next : ℕ) (op : TwoOp) (w : Width) (s d : Operand) (r : List ℕ) (vs : List Val) →
     arm_next join pc (Some (Two op w s d)) ≡ Some next → return_turn (Two op w s d) pc r vs ≡ quiet r
@@ -190,12 +191,12 @@ module _ (terms : Terms) (m : Module) (text : List ℕ) where
         same_words = λ r r'. ap (λ xs. written_words m (write_reaches xs)) same;
       }
 
-  jump_goes : (cn : ℕ) (off : ℤ) (pc : ℕ) (r q : List ℕ) (top low : Label) → (cn == 7) ≡ true → Over top low →
+  jump_goes : (cn : Condition) (off : ℤ) (pc : ℕ) (r q : List ℕ) (top low : Label) → is_always cn ≡ true → Over top low →
       Some_gives (step_jump terms m text (Jump cn off) cn (point pc r top)) →
       Goes (Some (Jump cn off)) pc top low (step_jump terms m text (Jump cn off) cn (point pc r top))
       (step_jump terms m text (Jump cn off) cn (point pc q low))
   unfolding plan_val
-  jump_goes cn off pc r q top low seven o g = record { leads = by (cn == 7) seven g; same_words = λ r r'. refl }
+  jump_goes cn off pc r q top low always o g = record { leads = by (is_always cn) always g; same_words = λ r r'. refl }
     where
       taken : List ℕ → Label → FlowStep
       taken r l = goes terms m pc r (does_val (Jump cn off) pc l.core []).core l.words
@@ -220,7 +221,7 @@ module _ (terms : Terms) (m : Module) (text : List ℕ) where
   insn_goes (Some (One op w a)) join next pc r q top low on p none g =
       plain_goes (One op w a) pc r q top low (λ r vs. one_quiet join pc next op w a r vs on) p none g
   insn_goes (Some (Jump cn off)) join next pc r q top low on p none g =
-      jump_goes cn off pc r q top low (if_seven (cn == 7) _ _ _ next on) p g
+      jump_goes cn off pc r q top low (if_always (is_always cn) _ _ _ next on) p g
   insn_goes (Some Reti) join next pc r q top low on p none g = absurd cc
   insn_goes (Some (UnitOp n)) join next pc r q top low on p none g = absurd cc
 

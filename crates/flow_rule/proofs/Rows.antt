@@ -2,6 +2,7 @@
 use Rattle.std.proofs.Common.{◌≡◌, ℕ, ◌%◌, ◌/◌, List, [], ◌∷◌, ◌++◌, refl, length, pos}
 use Rattle.std.specs.Prelude.{replicate}
 use Rattle.insn_decode.specs.Code.{insn_of}
+use Rattle.insn_decode.specs.declared.insn.Condition.TheVariants.{Zero}
 use Rattle.insn_decode.specs.declared.insn.Insn.TheVariants.{Jump}
 use Rattle.flow_rule.specs.Terms.{no_terms}
 use Rattle.flow_rule.specs.declared.Val.{Val}
@@ -120,9 +121,9 @@ branch_told x =
     let m = module_of 0x0300 0x0310 0x0400 0x0402 in
     let text = bytes_of branch_text in
     let arm : Arm = record { branch = 0x0300; join = 0x030e; cycles = 6 } in (
-      first_walk (flow_step no_terms m text) m text (Jump 1 (pos 3)) arm x,
+      first_walk (flow_step no_terms m text) m text (Jump Zero (pos 3)) arm x,
       second_walk (flow_step no_terms m text) m text
-          (Jump 1 (pos 3)) 0x0308 arm x,
+          (Jump Zero (pos 3)) 0x0308 arm x,
     )
 
 arm_writes : Walk

@@ -5,7 +5,7 @@ use Rattle.arm_balance.specs.Balance.{arm_on}
 use Rattle.cycle_table.specs.Cycles.{cycles_of}
 use Rattle.std.specs.Prelude.{ℕ, zero, suc, ◌+◌, List, [], ◌∷◌, ◌++◌, slice_set, fold, find, ◌==◌, if◌then◌else◌, Bool, true, ◌&&◌, not, Option, Some, None}
 use Rattle.sm_words.specs.Words.{add16, kept}
-use Rattle.insn_decode.specs.Code.{distance}
+use Rattle.insn_decode.specs.Code.{distance, is_always}
 use Rattle.cpu_step.specs.Plan.{writes_dst}
 use Rattle.insn_decode.specs.declared.insn.OneOp.TheVariants.{Push}
 use Rattle.insn_decode.specs.declared.insn.Operand.{Operand}
@@ -128,8 +128,8 @@ step_branch (Some arm) step m text insn x target = step_arm step m text insn tar
 
 -- only a conditional jump with Secret flags whose address is a branch of the list is taken otherwise
 abbrev pub step_arms_by : Option Insn → (Point → FlowStep) → List Arm → Module → List ℕ → Point → FlowStep
-step_arms_by (Some (Jump cond_no off)) step arms m text x =
-    if not (cond_no == 7) && is_secret (val x.label.core 2) then step_branch (find (λ arm. arm.branch == x.pair.addr) arms) step m text (Jump cond_no off) x (add16 (add16 x.pair.addr 2) (distance off)) else step x
+step_arms_by (Some (Jump condition off)) step arms m text x =
+    if not (is_always condition) && is_secret (val x.label.core 2) then step_branch (find (λ arm. arm.branch == x.pair.addr) arms) step m text (Jump condition off) x (add16 (add16 x.pair.addr 2) (distance off)) else step x
 step_arms_by o step arms m text x = step x
 
 unfoldable pub step_arms : (Point → FlowStep) → List Arm → Module → List ℕ → Point → FlowStep

@@ -211,6 +211,6 @@ does_val (One op w arg) pc core values =
     let core2 = stepped_val w arg core1 in
     let a = given_val arg w core1 values in
     one_done_val op w arg a (carry_val core) core2
-does_val (Jump cond off) pc core values =
-    record { core = put_val (past_val (Jump cond off) pc core) 0 (Known (add16 (add16 pc 2) (distance off))); stored = [] }
+does_val (Jump condition off) pc core values =
+    record { core = put_val (past_val (Jump condition off) pc core) 0 (Known (add16 (add16 pc 2) (distance off))); stored = [] }
 does_val insn pc core values = record { core = past_val insn pc core; stored = [] }

@@ -1,8 +1,10 @@
 -- The transfer function at a program point: an instruction's violations, and the pairs and labels that it gives.
-use Rattle.std.specs.Prelude.{ℕ, List, [], ◌++◌, map, ◌==◌, if◌then◌else◌, Option, Some, None}
+use Rattle.std.specs.Prelude.{ℕ, List, [], ◌++◌, map, if◌then◌else◌, Option, Some, None}
 use Rattle.sm_words.specs.Words.{word_at}
+use Rattle.insn_decode.specs.declared.insn.Condition.{Condition}
 use Rattle.insn_decode.specs.declared.insn.Insn.{Insn}
 use Rattle.insn_decode.specs.declared.insn.Insn.TheVariants.{Jump, Reti, Unit as UnitOp}
+use Rattle.insn_decode.specs.Code.{is_always}
 use Rattle.insn_decode.specs.Means.{unit_code}
 use Rattle.mod_layout.specs.declared.Module.{Module}
 use Rattle.arm_balance.specs.Met.{text_byte, met}
@@ -30,11 +32,11 @@ step_plain terms m text insn x =
     (if t.stops then fails pc UnknownTarget 0 else goes terms m pc t.returns d.core (writes_val m x.label.words (write_reaches xs) d.stored))
 
 -- a jump that is always taken has one way; any other has both, and its flags may not be secret
-abbrev pub step_jump : Terms → Module → List ℕ → Insn → ℕ → Point → FlowStep
-step_jump terms m text insn cond x =
+abbrev pub step_jump : Terms → Module → List ℕ → Insn → Condition → Point → FlowStep
+step_jump terms m text insn condition x =
     let pc = x.pair.addr in
     let taken = goes terms m pc x.pair.returns (does_val insn pc x.label.core []).core x.label.words in
-    if cond == 7 then taken
+    if is_always condition then taken
     else also (violation_if (is_secret (val x.label.core 2)) pc SecretBranch 0) (both taken (goes terms m pc x.pair.returns (past_val insn pc x.label.core) x.label.words))
 
 -- unprotect closes; own id and caller id are public; the others are refused
@@ -47,7 +49,7 @@ step_unit terms m insn name x = fails x.pair.addr UnitWord (unit_code name)
 abbrev pub step_insn : Terms → Module → List ℕ → Option Insn → Point → FlowStep
 step_insn terms m text None x = fails x.pair.addr Illegal (word_at (text_byte m.text text) x.pair.addr)
 step_insn terms m text (Some Reti) x = fails x.pair.addr Illegal (word_at (text_byte m.text text) x.pair.addr)
-step_insn terms m text (Some (Jump cond off)) x = step_jump terms m text (Jump cond off) cond x
+step_insn terms m text (Some (Jump condition off)) x = step_jump terms m text (Jump condition off) condition x
 step_insn terms m text (Some (UnitOp name)) x = step_unit terms m (UnitOp name) name x
 step_insn terms m text (Some insn) x = step_plain terms m text insn x
 

@@ -25,7 +25,7 @@ destination_parts h (to_indexed r x p) = h
 pub means_form : {w0 w1 w2 : ℕ} {insn : Insn} {n : ℕ} → Means w0 w1 w2 insn n → HasForm insn
 means_form {w0} (format_one op s d c src dst) = (source_parts (omega arith) src, destination_parts (omega arith) dst)
 means_form {w0} (format_two op a h c src fits) = (source_parts (omega arith) src, fits)
-means_form {w0} (jump h) = omega arith
+means_form (jump condition h k) = tt
 means_form (return h) = tt
 means_form (unit name h) = tt
 

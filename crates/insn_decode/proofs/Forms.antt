@@ -4,14 +4,14 @@ use Rattle.std.proofs.lemmas.Bool.Decides.{nat_tests}
 use Rattle.std.specs.Prelude.{slice_get, option_map}
 use Rattle.insn_decode.specs.declared.insn.UnitName.{UnitName}
 use Rattle.insn_decode.specs.declared.insn.Insn.{Insn}
-use Rattle.insn_decode.specs.declared.insn.Insn.TheVariants.{Jump, Reti, Unit as UnitOp}
-use Rattle.insn_decode.specs.Code.{insn_of, two_of, one_of, two_ops, one_ops, unit_ops, offset_of}
+use Rattle.insn_decode.specs.declared.insn.Insn.TheVariants.{Reti, Unit as UnitOp}
+use Rattle.insn_decode.specs.Code.{insn_of, two_of, one_of, jump_of, two_ops, one_ops, conditions, unit_ops}
 
 pub form_two : (w0 w1 w2 : ℕ) → 16383 < w0 → insn_of w0 w1 w2 ≡ two_of (slice_get two_ops (w0 / 4096 - 4)) w0 w1 w2
 unfolding insn_of
 form_two w0 w1 w2 h = grind (arith, nat_tests)
 
-pub form_jump : (w0 w1 w2 : ℕ) → 8191 < w0 → w0 < 16384 → insn_of w0 w1 w2 ≡ Some (Jump ((w0 / 1024) % 8) (offset_of (w0 % 1024)))
+pub form_jump : (w0 w1 w2 : ℕ) → 8191 < w0 → w0 < 16384 → insn_of w0 w1 w2 ≡ jump_of (slice_get conditions ((w0 / 1024) % 8)) w0
 unfolding insn_of
 form_jump w0 w1 w2 h k = grind (arith, nat_tests)
 

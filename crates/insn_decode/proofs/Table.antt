@@ -14,10 +14,10 @@ use Rattle.insn_decode.specs.declared.insn.UnitName.TheVariants.{Unprotect}
 use Rattle.insn_decode.specs.declared.insn.Operand.{Operand}
 use Rattle.insn_decode.specs.declared.insn.Insn.{Insn}
 use Rattle.insn_decode.specs.declared.insn.Insn.TheVariants.{Two, One, Jump, Reti, Unit as UnitOp}
-use Rattle.insn_decode.specs.Code.{insn_of, two_of, one_of, one_fits, two_ops, one_ops, unit_ops, offset_of, source_of, dest_of, width_of, words_of, length_of}
+use Rattle.insn_decode.specs.Code.{insn_of, two_of, one_of, jump_of, one_fits, two_ops, one_ops, conditions, unit_ops, offset_of, source_of, dest_of, width_of, words_of, length_of}
 use Rattle.insn_decode.specs.Means.{two_code, one_code, condition_code, unit_code, Source, Means, format_one, format_two, jump, return, unit}
 use Rattle.insn_decode.proofs.Forms.{form_two, form_jump, form_return, form_unit, form_one, form_below, form_between}
-use Rattle.insn_decode.proofs.Rows.{apart, source_found, source_read, destination_found, destination_read, two_found, two_read, one_found, one_read, unit_found, unit_read}
+use Rattle.insn_decode.proofs.Rows.{apart, source_found, source_read, destination_found, destination_read, two_found, two_read, one_found, one_read, condition_found, condition_read, unit_found, unit_read}
 
 -- ---- what the function gives stands in the relation
 
@@ -57,6 +57,11 @@ one_means w0 w1 w2 insn h = with_op (slice_get one_ops ((w0 / 128) % 8)) refl
     with_op None q e = absurd cc
     with_op (Some op) q e = with_source op (one_read ((w0 / 128) % 8) op q) (source_of ((w0 / 16) % 4) (w0 % 16) w1) refl e
 
+jump_means : (w0 w1 w2 : ℕ) (insn : Insn) → w0 / 8192 ≡ 1 → (o : Option Condition) → slice_get conditions ((w0 / 1024) % 8) ≡ o → jump_of o w0 ≡ Some insn → Means w0 w1 w2 insn (length_of insn)
+jump_means w0 w1 w2 insn h None q e = absurd cc
+jump_means w0 w1 w2 insn h (Some c) q e =
+    subst (λ (i : Insn). Means w0 w1 w2 i (length_of i)) (same_Some (Jump c (offset_of (w0 % 1024))) insn e) (jump c h (condition_read ((w0 / 1024) % 8) c q))
+
 unit_means : (w0 w1 w2 : ℕ) (insn : Insn) → 4991 < w0 → (o : Option UnitName) → slice_get unit_ops (w0 - 4992) ≡ o → option_map UnitOp o ≡ Some insn → Means w0 w1 w2 insn (length_of insn)
 unit_means w0 w1 w2 insn h None q e = absurd cc
 unit_means w0 w1 w2 insn h (Some name) q e =
@@ -69,7 +74,7 @@ insn_means w0 w1 w2 insn e =
     (λ (a : 4096 ≤ w0). ⊎_elim (λ (h : w0 < 5120). low a h)
     (λ (b : 5120 ≤ w0). ⊎_elim (λ (h : w0 < 8192). apart (insn_of w0 w1 w2) insn (form_between w0 w1 w2 (omega arith) h) e)
     (λ (c : 8192 ≤ w0). ⊎_elim (λ (h : w0 < 16384).
-    subst (λ (i : Insn). Means w0 w1 w2 i (length_of i)) (same_Some (Jump ((w0 / 1024) % 8) (offset_of (w0 % 1024))) insn (sym (form_jump w0 w1 w2 (omega arith) h) ∙ e)) (jump (omega arith)))
+    jump_means w0 w1 w2 insn (omega arith) (slice_get conditions ((w0 / 1024) % 8)) refl (sym (form_jump w0 w1 w2 (omega arith) h) ∙ e))
     (λ (h : 16384 ≤ w0). two_means w0 w1 w2 insn (omega arith) (sym (form_two w0 w1 w2 (omega arith)) ∙ e))
     (cases_lt w0 16384)) (cases_lt w0 8192)) (cases_lt w0 5120)) (cases_lt w0 4096)
   where
@@ -130,7 +135,10 @@ means_insn {w0} {w1} {w2} (format_two op a h c src fits) = (
 
     beyond : (op : OneOp) → (w0 / 128) % 8 ≡ one_code op → 4991 < w0 → 4998 < w0
     beyond op c e = let b : one_code op < 6 = one_code_most op in absurd (omega arith)
-means_insn {w0} {w1} {w2} (jump h) = (form_jump w0 w1 w2 (omega arith) (omega arith), refl)
+means_insn {w0} {w1} {w2} (jump condition h c) = (
+  form_jump w0 w1 w2 (omega arith) (omega arith) ∙ ap (λ (o : Option Condition). jump_of o w0) (ap (slice_get conditions) c ∙ condition_found condition),
+  refl,
+)
 means_insn {w0} {w1} {w2} (return h) = (subst (λ (w : ℕ). insn_of w w1 w2 ≡ Some Reti) (sym h) (form_return w1 w2), refl)
 means_insn {w0} {w1} {w2} (unit name h) =
     let most : unit_code name < 7 = unit_code_most name in

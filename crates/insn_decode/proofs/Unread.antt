@@ -95,7 +95,7 @@ other_words {w0} {w1} {w2} v1 v2 (format_two op a h c src fits) =
     subst (λ (n : ℕ). Means w0 v1 v2 (revised (One op (width_of ((w0 / 64) % 2)) a) v1 v2) n)
     (ap (λ (n : ℕ). 1 + n) (words_same a v1))
     (format_two op (with_word a v1) h c (other_source v1 src) (fits_same op (width_of ((w0 / 64) % 2)) a v1 ∙ fits))
-other_words v1 v2 (jump h) = jump h
+other_words v1 v2 (jump condition h k) = jump condition h k
 other_words v1 v2 (return h) = return h
 other_words v1 v2 (unit name h) = unit name h
 
@@ -129,7 +129,7 @@ revised_long {w0} {w1} {w2} v2 h (format_one op s d c src dst) =
     by true q = no_word d v2 (let e : words_of s ≡ 1 = grind (arith, nat_tests) in omega arith)
     by false q = own_destination (subst (λ (b : Bool). Destination ((w0 / 128) % 2) (w0 % 16) (cond b w2 w1) d) q dst)
 revised_long {w0} {w1} {w2} v2 h (format_two op a l c src fits) = ap (λ (o : Operand). One op (width_of ((w0 / 64) % 2)) o) (own_source src)
-revised_long v2 h (jump k) = refl
+revised_long v2 h (jump condition k c) = refl
 revised_long v2 h (return k) = refl
 revised_long v2 h (unit name k) = refl
 

@@ -112,6 +112,12 @@ one_of op w0 w1 = do
 abbrev pub offset_of : ℕ → ℤ
 offset_of n = if nat_lt n 512 then pos n else (pos n -ℤ pos 1024)
 
+-- a jump
+abbrev pub jump_of : Option Condition → ℕ → Option Insn
+jump_of condition w0 = do
+  condition ← condition
+  Some (Jump condition (offset_of (bits 9 0 w0)))
+
 -- a jump's offset as a distance in bytes, modulo 65,536
 abbrev pub distance : ℤ → ℕ
 distance (pos n) = (2 * n) % 65536
@@ -121,7 +127,7 @@ distance (negsuc n) = 65536 - (2 * (n + 1)) % 65536
 unfoldable pub insn_of : ℕ → ℕ → ℕ → Option Insn
 insn_of w0 w1 w2 =
     if nat_lt 0x3fff w0 then two_of (slice_get two_ops (w0 / 4096 - 4)) w0 w1 w2
-    else (if w0 / 8192 == 1 then Some (Jump (bits 12 10 w0) (offset_of (bits 9 0 w0)))
+    else (if w0 / 8192 == 1 then jump_of (slice_get conditions (bits 12 10 w0)) w0
     else (if w0 == 0x1300 then Some Reti
     else (if nat_lt 0x137f w0 && nat_lt w0 0x1387 then option_map UnitOp (slice_get unit_ops (w0 - 0x1380))
     else (if w0 / 1024 == 4 then one_of (slice_get one_ops (bits 9 7 w0)) w0 w1
@@ -174,5 +180,4 @@ HasParts _ = Unit {0}
 abbrev pub HasForm : Insn → Type 0
 HasForm (Two op w s d) = HasParts s × HasParts d
 HasForm (One op w a) = HasParts a × IsTrue (one_fits op w a)
-HasForm (Jump cond offset) = cond < 8
 HasForm _ = Unit {0}

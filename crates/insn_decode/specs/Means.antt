@@ -92,7 +92,7 @@ pub data Destination : ℕ → ℕ → ℕ → Operand → Type 0 where
 pub data Means (w0 w1 w2 : ℕ) : Insn → ℕ → Type 0 where
   format_one : (op : TwoOp) (s d : Operand) → w0 / 4096 ≡ two_code op → Source ((w0 / 16) % 4) ((w0 / 256) % 16) w1 s → Destination ((w0 / 128) % 2) (w0 % 16) (if words_of s == 1 then w2 else w1) d → Means w0 w1 w2 (Two op (width_of ((w0 / 64) % 2)) s d) (1 + words_of s + words_of d)
   format_two : (op : OneOp) (a : Operand) → w0 / 1024 ≡ 4 → (w0 / 128) % 8 ≡ one_code op → Source ((w0 / 16) % 4) (w0 % 16) w1 a → IsTrue (one_fits op (width_of ((w0 / 64) % 2)) a) → Means w0 w1 w2 (One op (width_of ((w0 / 64) % 2)) a) (1 + words_of a)
-  jump : w0 / 8192 ≡ 1 → Means w0 w1 w2 (Jump ((w0 / 1024) % 8) (offset_of (w0 % 1024))) 1
+  jump : (condition : Condition) → w0 / 8192 ≡ 1 → (w0 / 1024) % 8 ≡ condition_code condition → Means w0 w1 w2 (Jump condition (offset_of (w0 % 1024))) 1
   return : w0 ≡ 0x1300 → Means w0 w1 w2 Reti 1
   unit : (name : UnitName) → w0 ≡ 0x1380 + unit_code name → Means w0 w1 w2 (UnitOp name) 1
 

@@ -2,7 +2,7 @@
 use Rattle.std.specs.Prelude.{ℕ, ◌+◌, ◌*◌, List, [], ◌∷◌, ◌++◌, ◌==◌, if◌then◌else◌, codes}
 use Rattle.std.specs.Fmt.{decimal}
 use Rattle.texts.specs.Hexadecimals.{hex_word}
-use Rattle.sm_words.specs.Words.{nth, add16}
+use Rattle.sm_words.specs.Words.{add16}
 use Rattle.sm_words.specs.declared.width.Width.{Width}
 use Rattle.sm_words.specs.declared.width.Width.TheVariants.{Byte, Word}
 use Rattle.insn_decode.specs.declared.insn.TwoOp.{TwoOp}
@@ -11,6 +11,8 @@ use Rattle.insn_decode.specs.declared.insn.OneOp.{OneOp}
 use Rattle.insn_decode.specs.declared.insn.OneOp.TheVariants.{Rrc, Swpb, Rra, Sxt, Push, Call}
 use Rattle.insn_decode.specs.declared.insn.Operand.{Operand}
 use Rattle.insn_decode.specs.declared.insn.Operand.TheVariants.{Reg, Const, Imm, Indexed, Symbolic, Absolute, Indirect, Increment}
+use Rattle.insn_decode.specs.declared.insn.Condition.{Condition}
+use Rattle.insn_decode.specs.declared.insn.Condition.TheVariants.{NotZero, Zero, NoCarry, Carry, Negative, GreaterOrEqual, Less, Always}
 use Rattle.insn_decode.specs.declared.insn.Insn.{Insn}
 use Rattle.insn_decode.specs.declared.insn.Insn.TheVariants.{Two, One, Jump, Reti, Unit as UnitOp}
 use Rattle.insn_decode.specs.Code.{words_of, distance}
@@ -39,8 +41,15 @@ one_name Push = codes "push"
 one_name Call = codes "call"
 
 -- the name of a jump by its condition
-abbrev pub jump_name : ℕ → List ℕ
-jump_name cond = nth cond (codes "jne" ∷ codes "jeq" ∷ codes "jnc" ∷ codes "jc" ∷ codes "jn" ∷ codes "jge" ∷ codes "jl" ∷ codes "jmp" ∷ []) []
+abbrev pub jump_name : Condition → List ℕ
+jump_name NotZero = codes "jne"
+jump_name Zero = codes "jeq"
+jump_name NoCarry = codes "jnc"
+jump_name Carry = codes "jc"
+jump_name Negative = codes "jn"
+jump_name GreaterOrEqual = codes "jge"
+jump_name Less = codes "jl"
+jump_name Always = codes "jmp"
 
 abbrev pub suffix_of : Width → List ℕ
 suffix_of Byte = codes ".b"
@@ -69,6 +78,6 @@ operand_text (Increment r) at = codes "@r" ++ decimal r ++ codes "+"
 abbrev pub insn_text : Insn → ℕ → List ℕ
 insn_text (Two op w s d) at = two_name op ++ suffix_of w ++ codes " " ++ operand_text s (add16 at 2) ++ codes ", " ++ operand_text d (add16 at (2 + 2 * words_of s))
 insn_text (One op w a) at = one_name op ++ suffix_of w ++ codes " " ++ operand_text a (add16 at 2)
-insn_text (Jump cond offset) at = jump_name cond ++ codes " " ++ hex_text (add16 (add16 at 2) (distance offset))
+insn_text (Jump condition offset) at = jump_name condition ++ codes " " ++ hex_text (add16 (add16 at 2) (distance offset))
 insn_text Reti at = codes "reti"
 insn_text (UnitOp name) at = codes "unit " ++ decimal (unit_code name)

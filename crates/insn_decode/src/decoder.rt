@@ -1,10 +1,10 @@
 //! The decoder.
 ghost use Rattle.std.specs.Prelude.{◌≡◌, ◌+◌, ◌-◌, ◌/◌, ◌%◌, ◌≤◌, ◌<◌, ◌≢◌, ◌↔◌, ℕ, slice_get, IfSome, IsNone, Some, option_map};
 ghost use Rattle.insn_decode.specs.declared.insn.Insn.TheVariants.{Unit as UnitOp};
-ghost use Rattle.insn_decode.specs.Code.{source_of, dest_of, width_of, two_ops, one_ops, unit_ops, one_fits, offset_of, insn_of, two_of, one_of, length_of, length_at, IsDecoded, HasForm};
+ghost use Rattle.insn_decode.specs.Code.{source_of, dest_of, width_of, two_ops, one_ops, conditions, unit_ops, one_fits, insn_of, two_of, one_of, jump_of, offset_of, length_of, length_at, IsDecoded, HasForm};
 ghost use Rattle.insn_decode.specs.Means.{IsOutside};
 
-use crate::insn::{Insn, OneOp, Operand, TwoOp, UnitName};
+use crate::insn::{Condition, Insn, OneOp, Operand, TwoOp, UnitName};
 use sm_words::Width;
 
 /// The instruction that begins with these three words, or `None` exactly where the first is outside the
@@ -45,10 +45,7 @@ fn by_form(w0: u16, w1: u16, w2: u16) -> Option<Insn>
 {
     match w0 {
         0x4000.. => decode_two(w0, w1, w2),
-        0x2000..=0x3fff => Some(Insn::Jump {
-            cond: ((w0 / 1024) % 8) as u8,
-            offset: offset(w0 % 1024),
-        }),
+        0x2000..=0x3fff => decode_jump(w0),
         0x1300 => Some(Insn::Reti),
         0x1380..=0x1386 => decode_unit(w0 - 0x1380),
         0x1000..=0x13ff => decode_one(w0, w1),
@@ -87,6 +84,16 @@ fn decode_one(w0: u16, w1: u16) -> Option<Insn>
     } else {
         None
     }
+}
+
+/// A jump.
+#[inline(always)]
+fn decode_jump(w0: u16) -> Option<Insn>
+    ensures { result ≡ jump_of (slice_get conditions ((w0 / 1024) % 8)) w0 }
+{
+    let condition = Condition::from_number((w0 / 1024) % 8);
+    let offset = offset(w0 % 1024);
+    Some(Insn::Jump { condition, offset })
 }
 
 /// The unit instruction of this number.

@@ -110,9 +110,9 @@ pub enum Insn {
         width: Width,
         arg: Operand,
     },
-    /// A jump by `offset` words past the next instruction, under condition 0 to 7.
+    /// A jump by `offset` words past the next instruction.
     Jump {
-        cond: u8,
+        condition: Condition,
         offset: i16,
     },
     /// The return from an interrupt.

@@ -6,7 +6,7 @@ ghost use Rattle.sm_words.specs.Words.{add16};
 ghost use Rattle.insn_decode.specs.Code.{IsDecoded, HasForm, HasParts, distance};
 ghost use Rattle.insn_decode.specs.Text.{two_name, one_name, jump_name, suffix_of, hex_text, constant_text, operand_text, insn_text};
 
-use crate::insn::{Insn, OneOp, Operand, TwoOp};
+use crate::insn::{Condition, Insn, OneOp, Operand, TwoOp};
 use arrayvec::ArrayString;
 use sm_words::Width;
 use texts::{push_decimal, push_hex_word};
@@ -40,8 +40,8 @@ fn push_insn(insn: &Insn, at: u16, out: &mut ArrayString<48>)
             out.push_str(" ");
             push_operand(arg, plus(at, 2), out);
         }
-        Insn::Jump { cond, offset } => {
-            out.push_str(jump_name(cond));
+        Insn::Jump { condition, offset } => {
+            out.push_str(jump_name(condition));
             out.push_str(" ");
             push_word(plus(plus(at, 2), distance(offset)), out);
         }
@@ -120,20 +120,19 @@ fn one_name(op: OneOp) -> &'static str
 }
 
 /// The name of a jump by its condition.
-fn jump_name(cond: u8) -> &'static str
-    ensures exact { result.now ≡ jump_name cond }
+fn jump_name(condition: Condition) -> &'static str
+    ensures exact { result.now ≡ jump_name condition }
     ensures most { length result.now ≤ 3 }
 {
-    match cond {
-        0 => "jne",
-        1 => "jeq",
-        2 => "jnc",
-        3 => "jc",
-        4 => "jn",
-        5 => "jge",
-        6 => "jl",
-        7 => "jmp",
-        _ => "",
+    match condition {
+        Condition::NotZero => "jne",
+        Condition::Zero => "jeq",
+        Condition::NoCarry => "jnc",
+        Condition::Carry => "jc",
+        Condition::Negative => "jn",
+        Condition::GreaterOrEqual => "jge",
+        Condition::Less => "jl",
+        Condition::Always => "jmp",
     }
 }
 

@@ -1,6 +1,6 @@
 //! First words of each row of the table, words outside it, and the text of instructions.
 use arrayvec::ArrayString;
-use insn_decode::{Insn, OneOp, Operand, TwoOp, UnitName, decode, length, show};
+use insn_decode::{Condition, Insn, OneOp, Operand, TwoOp, UnitName, decode, length, show};
 use sm_words::Width;
 use std::process::Abort;
 
@@ -30,8 +30,8 @@ fn byte(op: OneOp) -> Option<Insn> {
     Some(Insn::One { op, width, arg })
 }
 
-fn jump(cond: u8, offset: i16) -> Option<Insn> {
-    Some(Insn::Jump { cond, offset })
+fn jump(condition: Condition, offset: i16) -> Option<Insn> {
+    Some(Insn::Jump { condition, offset })
 }
 
 #[test]
@@ -139,15 +139,15 @@ fn the_rest(rt: HostRuntime) {
         (0x1300, Some(Insn::Reti)),
         (0x1380, Some(Insn::Unit(UnitName::Unprotect))),
         (0x1386, Some(Insn::Unit(UnitName::CallerId))),
-        (0x2000, jump(0, 0)),
-        (0x2400, jump(1, 0)),
-        (0x2800, jump(2, 0)),
-        (0x2c00, jump(3, 0)),
-        (0x3000, jump(4, 0)),
-        (0x3400, jump(5, 0)),
-        (0x39ff, jump(6, 511)),
-        (0x3e00, jump(7, -512)),
-        (0x3fff, jump(7, -1)),
+        (0x2000, jump(Condition::NotZero, 0)),
+        (0x2400, jump(Condition::Zero, 0)),
+        (0x2800, jump(Condition::NoCarry, 0)),
+        (0x2c00, jump(Condition::Carry, 0)),
+        (0x3000, jump(Condition::Negative, 0)),
+        (0x3400, jump(Condition::GreaterOrEqual, 0)),
+        (0x39ff, jump(Condition::Less, 511)),
+        (0x3e00, jump(Condition::Always, -512)),
+        (0x3fff, jump(Condition::Always, -1)),
     ];
     for (word, want) in rows {
         assert_eq!(rt; meaning(word), want, "of {word:04x}");

@@ -17,7 +17,7 @@ IsKnown names (Global name) = name < names
 IsKnown names (Word (Name name)) = name < names
 IsKnown names (Word (Number n)) = Unit {0}
 IsKnown names (Space size) = size ≤ MAX_SIZE
-IsKnown names (Jump cond target) = (cond < 8) × (target < names)
+IsKnown names (Jump condition target) = target < names
 IsKnown names (Code insn first second) = IsBelow names first × IsBelow names second
 
 abbrev pub AreKnown : ℕ → List (Statement ℕ) → Type 0

@@ -19,7 +19,7 @@ renamed f (Label name) = Label (f name)
 renamed f (Global name) = Global (f name)
 renamed f (Word field) = Word (renamed_field f field)
 renamed f (Space size) = Space size
-renamed f (Jump cond target) = Jump cond (f target)
+renamed f (Jump condition target) = Jump condition (f target)
 renamed f (Code insn first second) = Code insn (option_map f first) (option_map f second)
 
 -- a statement with the texts of its names

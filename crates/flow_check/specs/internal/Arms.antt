@@ -5,7 +5,7 @@ use Rattle.insn_decode.specs.declared.insn.Insn.TheVariants.{Jump}
 use Rattle.insn_decode.specs.declared.insn.OneOp.{OneOp}
 use Rattle.insn_decode.specs.declared.insn.OneOp.TheVariants.{Push}
 use Rattle.insn_decode.specs.declared.insn.Operand.{Operand}
-use Rattle.insn_decode.specs.Code.{distance}
+use Rattle.insn_decode.specs.Code.{distance, is_always}
 use Rattle.sm_words.specs.Words.{add16}
 use Rattle.mod_layout.specs.declared.Module.{Module}
 use Rattle.arm_balance.specs.declared.Arm.{Arm}
@@ -55,7 +55,7 @@ site_from (Some arm) insn target = Some (record { insn = insn; target = target; 
 -- a conditional jump with Secret flags whose address is a branch of the certificates
 abbrev pub site_by : Option Insn → List Arm → ℕ → Val → Option BranchSite
 site_by (Some (Jump c off)) arms pc flags =
-    if not (c == 7) && is_secret flags then site_from (find (λ arm. arm.branch == pc) arms) (Jump c off) (add16 (add16 pc 2) (distance off))
+    if not (is_always c) && is_secret flags then site_from (find (λ arm. arm.branch == pc) arms) (Jump c off) (add16 (add16 pc 2) (distance off))
     else None
 site_by insn arms pc flags = None
 

@@ -47,5 +47,5 @@ id_step terms m insn pc returns label =
 
 -- a jump
 abbrev pub IsJump : Insn → Type 0
-IsJump (Jump cond offset) = Unit {0}
+IsJump (Jump condition offset) = Unit {0}
 IsJump insn = ⊥
