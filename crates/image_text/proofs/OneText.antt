@@ -7,8 +7,9 @@ use Rattle.hex.specs.Hex.{IsBytes, lower_digits, encode_with, encode_lower}
 use Rattle.mod_layout.specs.declared.Section.{Section}
 use Rattle.mod_layout.specs.declared.Module.{Module}
 use Rattle.mod_layout.specs.declared.TableFault.{TableFault}
-use Rattle.mod_layout.specs.declared.TableFault.TheVariants.{Empty, Odd, Reserved, Full, Spent}
-use Rattle.mod_layout.specs.Table.{Table, fault_of, with_module, empty_table, share_byte, lowest_met, meets, fault_if, overlap_or, is_empty, is_odd, is_reserved}
+use Rattle.mod_layout.specs.declared.TableFault.TheVariants.{Empty, Odd, Overlap, Reserved, Full, Spent}
+use Rattle.mod_layout.specs.First.{first_of}
+use Rattle.mod_layout.specs.Table.{Table, fault_of, with_module, empty_table, share_byte, lowest_met, meets, is_empty, is_odd, is_reserved}
 use Rattle.mod_layout.specs.Tables.{IsSection, IsModule, Separate, AreModules}
 use Rattle.mod_layout.proofs.Found.{SeparateFrom, share_sym}
 use Rattle.texts.specs.Lines.{is_line_feed, ended_lines, unended}
@@ -19,7 +20,9 @@ use Rattle.std.specs.Char.{is_ascii_digit}
 use Rattle.std.proofs.lemmas.Fmt.{digits_decimal}
 use Rattle.texts.proofs.DecimalLemmas.{digits_model}
 use Rattle.texts.proofs.LineLemmas.{ended_lines-before, unended-before}
+use Rattle.std.specs.Bool.{then_some}
 use Rattle.std.specs.List.{All, filter, list_all, reduce}
+use Rattle.std.specs.Option.{option_map}
 use Rattle.std.proofs.lemmas.List.Sums.{AllPass-from_list_all}
 use Rattle.texts.specs.Hexadecimals.{hex_word}
 use Rattle.image_text.specs.declared.ImageFault.{ImageFault}
@@ -515,7 +518,9 @@ no_fault t g m h apart room few =
     a.filled b.filled a.even b.even a.free b.free h.apart e f c
   where
     steps : (a b c d e f g h i : Bool) (o : Option ℕ) → a ≡ false → b ≡ false → c ≡ false → d ≡ false → e ≡ false → f ≡ false → g ≡ false → h ≡ true → i ≡ true → o ≡ None
-        → fault_if (a || b) Empty (fault_if (c || d) Odd (overlap_or o g (fault_if (e || f) Reserved (fault_if (not h) Full (fault_if (not i) Spent None))))) ≡ None
+        → first_of (
+            then_some (a || b) Empty ∷ then_some (c || d) Odd ∷ option_map Overlap o ∷ then_some g (Overlap 0)
+            ∷ then_some (e || f) Reserved ∷ then_some (not h) Full ∷ then_some (not i) Spent ∷ []) ≡ None
     steps a b c d e f g h i o p1 p2 p3 p4 p5 p6 p7 p8 p9 p10 = rw (p1, p2, p3, p4, p10, p7, p5, p6, p8, p9) refl
 
 abbrev AllApart : List Module → List Module → Type 0

@@ -1,5 +1,7 @@
 -- The table's definitions along a list of modules, and what a table keeps as modules come and go.
 use Rattle.std.proofs.Common.{◌≡◌, ◌⊎◌, inl, inr, ℕ, ◌+◌, ◌%◌, ◌<◌, ◌≤◌, max, min, map, List, [], ◌∷◌, ◌++◌, length, length-append, Bool, true, false, nat_lt, nat_le, cond, not, ◌&&◌, ◌||◌, ◌==◌, Option, Some, None, IsSome, is_none, refl, sym, ◌∙◌, subst, arith, one-add}
+use Rattle.std.specs.Bool.{then_some}
+use Rattle.std.specs.Option.{option_map}
 use Rattle.std.specs.List.{filter, fold, reduce, remove, position_or_len, position}
 use Rattle.std.proofs.lemmas.Bool.Decides.{nat_tests}
 use Rattle.std.proofs.lemmas.Bool.{cases_lt, ltb-false, not-false, and_from, and_parts, or_parts}
@@ -7,8 +9,9 @@ use Rattle.mod_layout.specs.declared.TheConstants.{DEVICES_END, FIRST_VECTOR}
 use Rattle.mod_layout.specs.declared.Section.{Section}
 use Rattle.mod_layout.specs.declared.Module.{Module}
 use Rattle.mod_layout.specs.declared.TableFault.{TableFault}
-use Rattle.mod_layout.specs.declared.TableFault.TheVariants.{Empty, Odd, Reserved, Full, Spent}
-use Rattle.mod_layout.specs.Table.{Table, holds, size_of, place_in, place_of, without, drop_module, share_byte, meets, is_empty, is_odd, is_reserved, lowest_met, fault_if, overlap_or, fault_of, takes, with_module}
+use Rattle.mod_layout.specs.declared.TableFault.TheVariants.{Empty, Odd, Overlap, Reserved, Full, Spent}
+use Rattle.mod_layout.specs.First.{first_of}
+use Rattle.mod_layout.specs.Table.{Table, holds, size_of, place_in, place_of, without, drop_module, share_byte, meets, is_empty, is_odd, is_reserved, lowest_met, fault_of, takes, with_module}
 use Rattle.mod_layout.specs.Tables.{IsSection, IsModule, Separate, AreModules, IsTable}
 use Rattle.mod_layout.proofs.Found.{SeparateFrom, find_module, share_sym}
 
@@ -129,13 +132,14 @@ none_met text ram (x ∷ ms) e = by (meets text ram x) e (λ f. none_met text ra
     by true f r = absurd cc
     by false f r = r f
 
-no_fault : (c : Bool) (f : TableFault) (rest : Option TableFault) → fault_if c f rest ≡ None → (c ≡ false) × (rest ≡ None)
-no_fault true f rest e = absurd cc
-no_fault false f rest e = (refl, e)
-
-no_overlap : (o : Option ℕ) (own : Bool) (rest : Option TableFault) → overlap_or o own rest ≡ None → (o ≡ None) × (own ≡ false) × (rest ≡ None)
-no_overlap None false rest e = (refl, refl, e)
-no_overlap _ _ rest e = absurd cc
+-- where there is no fault no test says so
+no_fault : (empty odd : Bool) (met : Option ℕ) (own reserved full spent : Bool) →
+    first_of (
+        then_some empty Empty ∷ then_some odd Odd ∷ option_map Overlap met ∷ then_some own (Overlap 0)
+        ∷ then_some reserved Reserved ∷ then_some full Full ∷ then_some spent Spent ∷ []) ≡ None →
+    (empty ≡ false) × (odd ≡ false) × (met ≡ None) × (own ≡ false) × (reserved ≡ false) × (full ≡ false) × (spent ≡ false)
+no_fault false false None false false false false e = (refl, refl, refl, refl, refl, refl, refl)
+no_fault _ _ _ _ _ _ _ e = absurd cc
 
 none_of : (o : Option TableFault) → is_none o ≡ true → o ≡ None
 none_of None e = refl
@@ -161,19 +165,17 @@ pub record Taken (t : Table) (text ram : Section) : Type 0 where
 
 pub taken : (t : Table) (text ram : Section) → takes t text ram ≡ true → Taken t text ram
 taken t text ram e =
-    let e1 = no_fault (is_empty text || is_empty ram) Empty _ (none_of (fault_of t text ram) e) in
-    let e2 = no_fault (is_odd text || is_odd ram) Odd _ e1.1 in
-    let e3 = no_overlap (lowest_met text ram t.modules) (share_byte text ram) _ e2.1 in
-    let e4 = no_fault (is_reserved text || is_reserved ram) Reserved _ e3.2 in
-    let e5 = no_fault (not (nat_lt (length t.modules) t.room)) Full _ e4.1 in
-    let e6 = no_fault (not (nat_lt t.given 65535)) Spent None e5.1 in
-    let r = not-false (nat_lt (length t.modules) t.room) e5.0 in
-    let g = not-false (nat_lt t.given 65535) e6.0 in
+    let f =
+        no_fault (is_empty text || is_empty ram) (is_odd text || is_odd ram) (lowest_met text ram t.modules) (share_byte text ram)
+        (is_reserved text || is_reserved ram) (not (nat_lt (length t.modules) t.room)) (not (nat_lt t.given 65535)) (none_of (fault_of t text ram) e)
+    in
+    let r = not-false (nat_lt (length t.modules) t.room) f.5 in
+    let g = not-false (nat_lt t.given 65535) f.6 in
     record {
-      text_ok = section_ok text (or_parts (is_empty text) (is_empty ram) e1.0).0 (or_parts (is_odd text) (is_odd ram) e2.0).0 (or_parts (is_reserved text) (is_reserved ram) e4.0).0;
-      ram_ok = section_ok ram (or_parts (is_empty text) (is_empty ram) e1.0).1 (or_parts (is_odd text) (is_odd ram) e2.0).1 (or_parts (is_reserved text) (is_reserved ram) e4.0).1;
-      none = none_met text ram t.modules e3.0;
-      apart = e3.1;
+      text_ok = section_ok text (or_parts (is_empty text) (is_empty ram) f.0).0 (or_parts (is_odd text) (is_odd ram) f.1).0 (or_parts (is_reserved text) (is_reserved ram) f.4).0;
+      ram_ok = section_ok ram (or_parts (is_empty text) (is_empty ram) f.0).1 (or_parts (is_odd text) (is_odd ram) f.1).1 (or_parts (is_reserved text) (is_reserved ram) f.4).1;
+      none = none_met text ram t.modules f.2;
+      apart = f.3;
       room = grind (arith, nat_tests);
       given = grind (arith, nat_tests);
     }

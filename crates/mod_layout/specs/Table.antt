@@ -1,8 +1,8 @@
 -- Modules, their places in the address space, and the table that holds them.
-use Rattle.std.specs.Prelude.{ℕ, ◌+◌, ◌-◌, ◌%◌, List, [], ◌∷◌, ◌++◌, max, min, map, filter, ◌==◌, nat_lt, nat_le, if◌then◌else◌, Bool, ◌&&◌, ◌||◌, not, find, Option, None, is_none, option_map, option_and_then, length}
+use Rattle.std.specs.Prelude.{ℕ, ◌+◌, ◌-◌, ◌%◌, List, [], ◌∷◌, ◌++◌, max, min, map, filter, ◌==◌, nat_lt, nat_le, if◌then◌else◌, Bool, ◌&&◌, ◌||◌, not, find, Option, is_none, option_map, option_and_then, length}
 use Rattle.std.specs.Bool.{then_some}
 use Rattle.std.specs.List.{reduce}
-use Rattle.std.specs.Option.{option_or}
+use Rattle.mod_layout.specs.First.{first_of}
 use Rattle.mod_layout.specs.declared.TheConstants.{DEVICES_END, FIRST_VECTOR}
 use Rattle.mod_layout.specs.declared.Section.{Section}
 use Rattle.mod_layout.specs.declared.Module.{Module}
@@ -85,23 +85,16 @@ is_reserved s = nat_lt s.start DEVICES_END || nat_lt FIRST_VECTOR s.end
 abbrev pub lowest_met : Section → Section → List Module → Option ℕ
 lowest_met text ram ms = reduce min (map (λ m. m.id) (filter (meets text ram) ms))
 
--- this fault where the test says so, and else what comes after
-abbrev pub fault_if : Bool → TableFault → Option TableFault → Option TableFault
-fault_if refused f rest = option_or (then_some refused f) rest
-
--- sections that meet a held module, or else each other, and else what comes after
-abbrev pub overlap_or : Option ℕ → Bool → Option TableFault → Option TableFault
-overlap_or met own rest = option_or (option_map Overlap met) (fault_if own (Overlap 0) rest)
-
--- why a table refuses a module with these sections: the first that applies
+-- why a table refuses a module with these sections: the first that applies; they overlap a held module, or each other
 abbrev pub fault_of : Table → Section → Section → Option TableFault
-fault_of t text ram =
-    fault_if (is_empty text || is_empty ram) Empty
-    (fault_if (is_odd text || is_odd ram) Odd
-    (overlap_or (lowest_met text ram t.modules) (share_byte text ram)
-    (fault_if (is_reserved text || is_reserved ram) Reserved
-    (fault_if (not (nat_lt (length t.modules) t.room)) Full
-    (fault_if (not (nat_lt t.given 0xFFFF)) Spent None)))))
+fault_of t text ram = first_of (
+    then_some (is_empty text || is_empty ram) Empty
+    ∷ then_some (is_odd text || is_odd ram) Odd
+    ∷ option_map Overlap (lowest_met text ram t.modules)
+    ∷ then_some (share_byte text ram) (Overlap 0)
+    ∷ then_some (is_reserved text || is_reserved ram) Reserved
+    ∷ then_some (not (nat_lt (length t.modules) t.room)) Full
+    ∷ then_some (not (nat_lt t.given 0xFFFF)) Spent ∷ [])
 
 -- whether a table takes a module with these sections
 abbrev pub takes : Table → Section → Section → Bool
