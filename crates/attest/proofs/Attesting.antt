@@ -11,7 +11,8 @@ use Rattle.mod_keys.specs.Keys.{identity, tag_of}
 use Rattle.pc_access.specs.declared.Kind.TheVariants.{Read}
 use Rattle.pc_access.specs.declared.Access.{Access}
 use Rattle.pc_access.specs.declared.Denied.{Denied}
-use Rattle.pc_access.specs.Rights.{first_denied}
+use Rattle.mod_layout.specs.First.{first_in}
+use Rattle.pc_access.specs.Rights.{right}
 use Rattle.attest.specs.Units.{Attest, Doer, Effect, answer, attest_answer, attest_plan, attested, blocks, each_byte, genuine, in_range, text_reads, unit_effect, unit_plan}
 use Rattle.attest.specs.Accesses.{bytes_read}
 use Rattle.attest.specs.internal.Accesses.{text_in}
@@ -63,12 +64,12 @@ module _ (who : Doer) (core : List ℕ) where
 
       -- the texts are refused to no one, so the 16 bytes decide
       pub denied_by : (active : Option ℕ) (held : List ℕ) (d : Option Denied) → IsTable who.table → own_of active who.table ≡ Some own →
-          in_range at (at + 16) ≡ true → first_denied who.table active held (each_byte Read at 16) ≡ d →
-          first_denied who.table active held (unit_plan who Attest core) ≡ d
+          in_range at (at + 16) ≡ true → first_in (right who.table active held) (each_byte Read at 16) ≡ d →
+          first_in (right who.table active held) (unit_plan who Attest core) ≡ d
       denied_by active held d ok found e bytes =
           let t = who.table in
-          let mine : first_denied t active held (text_reads own) ≡ None = own_text_allowed t active active held own ok found in
-          let others : first_denied t active held (text_reads other) ≡ None =
+          let mine : first_in (right t active held) (text_reads own) ≡ None = own_text_allowed t active active held own ok found in
+          let others : first_in (right t active held) (text_reads other) ≡ None =
           other_text_allowed t active (place_of t (reg core 12)) held other ok other_is in
           let tag = each_byte Read at 16 in
           rw (plan_by true e, denied-append t active held (tag ++ text_reads other) (text_reads own), denied-append t active held tag (text_reads other), mine, others, bytes)

@@ -9,7 +9,8 @@ use Rattle.pc_access.specs.declared.Kind.{Kind}
 use Rattle.pc_access.specs.declared.Kind.TheVariants.{Fetch, Read, Write}
 use Rattle.pc_access.specs.declared.Access.{Access}
 use Rattle.pc_access.specs.declared.Denied.{Denied}
-use Rattle.pc_access.specs.Rights.{right, right_at, first_denied, access_of}
+use Rattle.mod_layout.specs.First.{first_in}
+use Rattle.pc_access.specs.Rights.{right, right_at, access_of}
 use Rattle.attest.specs.Units.{each_byte}
 
 pub read_anyhow : (p : Place) (active : Option ℕ) (held held' : List ℕ) (a : ℕ) → right_at p active held Read a ≡ right_at p active held' Read a
@@ -31,14 +32,14 @@ right-held t active held held' Write a plain = write_anyhow (place_of t a) activ
 -- where the first is allowed the others decide
 pub denied-later : (t : Table) (active : Option ℕ) (held : List ℕ) (kind : Kind) (a n m : ℕ) → kind ≢ Fetch → n ≡ suc m →
     right t active [] (access_of kind a Byte) ≡ None →
-    first_denied t active held (each_byte kind a n) ≡ first_denied t active held (each_byte kind (a + 1) m)
+    first_in (right t active held) (each_byte kind a n) ≡ first_in (right t active held) (each_byte kind (a + 1) m)
 denied-later t active held kind a n m plain e free =
     rw (e, right-held t active held [] kind a plain, free) refl
 
 -- where the first is refused it decides
 pub denied-now : (t : Table) (active : Option ℕ) (held : List ℕ) (kind : Kind) (a n m : ℕ) (d : Denied) → kind ≢ Fetch → n ≡ suc m →
     right t active [] (access_of kind a Byte) ≡ Some d →
-    first_denied t active held (each_byte kind a n) ≡ Some d
+    first_in (right t active held) (each_byte kind a n) ≡ Some d
 denied-now t active held kind a n m d plain e refused =
     rw (e, right-held t active held [] kind a plain, refused) refl
 
@@ -48,9 +49,9 @@ option_or-later (Some d) x y z e = refl
 
 -- of two lists the first decides, if it does
 pub denied-append : (t : Table) (active : Option ℕ) (held : List ℕ) (xs ys : List Access) →
-    first_denied t active held (xs ++ ys) ≡ option_or (first_denied t active held xs) (first_denied t active held ys)
+    first_in (right t active held) (xs ++ ys) ≡ option_or (first_in (right t active held) xs) (first_in (right t active held) ys)
 denied-append t active held [] ys = refl
-denied-append t active held (x ∷ xs) ys = option_or-later (right t active held x) (first_denied t active held xs) (first_denied t active held ys) (first_denied t active held (xs ++ ys)) (denied-append t active held xs ys)
+denied-append t active held (x ∷ xs) ys = option_or-later (right t active held x) (first_in (right t active held) xs) (first_in (right t active held) ys) (first_in (right t active held) (xs ++ ys)) (denied-append t active held xs ys)
 
 pub or_none : (d : Option Denied) → option_or d None ≡ d
 or_none None = refl

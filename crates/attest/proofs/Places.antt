@@ -15,19 +15,20 @@ use Rattle.mod_layout.proofs.Found.{outside, no_entry, within, elsewhere, found_
 pub use Rattle.mod_layout.proofs.Found.{and_true, module_found}
 use Rattle.pc_access.specs.declared.Kind.{Kind}
 use Rattle.pc_access.specs.declared.Kind.TheVariants.{Read, Write}
-use Rattle.pc_access.specs.Rights.{right, right_at, first_denied, access_of}
+use Rattle.mod_layout.specs.First.{first_in}
+use Rattle.pc_access.specs.Rights.{right, right_at, access_of}
 use Rattle.attest.specs.Units.{each_byte, in_range, text_at, text_reads}
 use Rattle.attest.specs.Done.{own_of}
 
 -- where each access is allowed none is refused
 pub all_allowed : (t : Table) (active : Option ℕ) (held : List ℕ) (kind : Kind) (a n : ℕ) →
-    ((k : ℕ) → a ≤ k → k < a + n → right t active held (access_of kind k Byte) ≡ None) → first_denied t active held (each_byte kind a n) ≡ None
+    ((k : ℕ) → a ≤ k → k < a + n → right t active held (access_of kind k Byte) ≡ None) → first_in (right t active held) (each_byte kind a n) ≡ None
 all_allowed t active held kind a zero free = refl
 all_allowed t active held kind a (suc n) free =
     let here : a < a + suc n = omega arith in
-    let rest : first_denied t active held (each_byte kind (a + 1) n) ≡ None =
+    let rest : first_in (right t active held) (each_byte kind (a + 1) n) ≡ None =
     all_allowed t active held kind (a + 1) n (λ k low high. free k (omega arith) (omega arith)) in
-    ap (λ d. option_or d (first_denied t active held (each_byte kind (a + 1) n))) (free a (omega arith) here) ∙ rest
+    ap (λ d. option_or d (first_in (right t active held) (each_byte kind (a + 1) n))) (free a (omega arith) here) ∙ rest
 
 -- ---- reads of a text
 
@@ -69,7 +70,7 @@ text_is_no_data given id a m (y ∷ ms) are e low high =
 
 -- a text may be read by anyone
 pub text_allowed : (t : Table) (active : Option ℕ) (held : List ℕ) (id : ℕ) (m : Module) → IsTable t → module_of id t ≡ Some m →
-    first_denied t active held (text_reads m) ≡ None
+    first_in (right t active held) (text_reads m) ≡ None
 unfolding right place_of
 text_allowed t active held id m ok found =
     let order : m.text.start < m.text.end = (module_found t.given id m t.modules ok.modules found).text_ok.order in
@@ -98,7 +99,7 @@ last_ok given new (y ∷ ms) are = last_ok given new ms are.2
 
 -- its data may be written by anyone before it is taken
 pub ram_allowed : (t : Table) (active : Option ℕ) (held : List ℕ) (vendor : ℕ) (text ram : Section) → IsTable (with_module t vendor text ram) →
-    first_denied t active held (each_byte Write ram.start (size_of ram)) ≡ None
+    first_in (right t active held) (each_byte Write ram.start (size_of ram)) ≡ None
 unfolding right place_of
 ram_allowed t active held vendor text ram ok =
     let new : Module = record { id = t.given + 1; vendor = vendor; text = text; ram = ram } in
@@ -109,12 +110,12 @@ ram_allowed t active held vendor text ram ok =
 -- ---- the running module, and the one that attest is asked about
 
 pub own_text_allowed : (t : Table) (active active' : Option ℕ) (held : List ℕ) (m : Module) → IsTable t → own_of active' t ≡ Some m →
-    first_denied t active held (text_reads m) ≡ None
+    first_in (right t active held) (text_reads m) ≡ None
 own_text_allowed t active None held m ok e = absurd (none-some m e)
 own_text_allowed t active (Some id) held m ok e = text_allowed t active held id m ok e
 
 pub other_text_allowed : (t : Table) (active : Option ℕ) (place : Place) (held : List ℕ) (m : Module) → IsTable t → text_at t place ≡ Some m →
-    first_denied t active held (text_reads m) ≡ None
+    first_in (right t active held) (text_reads m) ≡ None
 other_text_allowed t active (Entry id) held m ok e = text_allowed t active held id m ok e
 other_text_allowed t active (Text id) held m ok e = text_allowed t active held id m ok e
 other_text_allowed t active _ held m ok e = absurd (none-some m e)

@@ -5,7 +5,8 @@ use Rattle.mod_layout.specs.Table.{Table, size_of, takes, with_module}
 use Rattle.mod_layout.specs.Tables.{IsTable}
 use Rattle.pc_access.specs.declared.Kind.TheVariants.{Write}
 use Rattle.pc_access.specs.declared.Access.{Access}
-use Rattle.pc_access.specs.Rights.{first_denied}
+use Rattle.mod_layout.specs.First.{first_in}
+use Rattle.pc_access.specs.Rights.{right}
 use Rattle.attest.specs.declared.UnitDone.{UnitDone}
 use Rattle.attest.specs.Units.{Protect, Doer, Effect, answer, blocks, each_byte, new_ram, new_text, table_by, unit_effect, unit_plan}
 use Rattle.attest.specs.Accesses.{memory_after, bytes_read, writes_of}
@@ -43,9 +44,9 @@ module _ (who : Doer) (core : List ℕ) where
   made_is_by b e = ap (λ (x : Bool). if x then who.table.given + 1 else 0) e
 
   pub allowed_by : (active : Option ℕ) (held : List ℕ) → takes who.table (new_text core) (new_ram core) ≡ true →
-      IsTable (with_module who.table (reg core 11) (new_text core) (new_ram core)) → first_denied who.table active held (unit_plan who Protect core) ≡ None
+      IsTable (with_module who.table (reg core 11) (new_text core) (new_ram core)) → first_in (right who.table active held) (unit_plan who Protect core) ≡ None
   allowed_by active held e ok =
-      ap (first_denied who.table active held) (plan_by true e) ∙ ram_allowed who.table active held (reg core 11) (new_text core) (new_ram core) ok
+      ap (first_in (right who.table active held)) (plan_by true e) ∙ ram_allowed who.table active held (reg core 11) (new_text core) (new_ram core) ok
 
   pub protected : (mem core' mem' : List ℕ) (table' : Table) (done : UnitDone) → takes who.table (new_text core) (new_ram core) ≡ true →
       core' ≡ put core 15 (who.table.given + 1) →

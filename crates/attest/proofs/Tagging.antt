@@ -9,7 +9,8 @@ use Rattle.mod_layout.specs.Tables.{IsSection, IsTable}
 use Rattle.mod_keys.specs.Keys.{tag_of}
 use Rattle.pc_access.specs.declared.Kind.TheVariants.{Read, Write}
 use Rattle.pc_access.specs.declared.Access.{Access}
-use Rattle.pc_access.specs.Rights.{first_denied}
+use Rattle.mod_layout.specs.First.{first_in}
+use Rattle.pc_access.specs.Rights.{right}
 use Rattle.attest.specs.declared.UnitDone.{UnitDone}
 use Rattle.attest.specs.Units.{Tag, Doer, Effect, answer, blocks, each_byte, in_range, tag_answer, tag_plan, text_reads, unit_effect, unit_plan}
 use Rattle.attest.specs.Accesses.{memory_after, bytes_read, writes_of}
@@ -61,16 +62,16 @@ module _ (who : Doer) (core : List ℕ) where
 
     -- the text is refused to no one, so the message and then the output decide
     pub denied_by : (active : Option ℕ) (held : List ℕ) → IsTable who.table → own_of active who.table ≡ Some own → in_ranges ≡ true →
-        first_denied who.table active held (unit_plan who Tag core)
-        ≡ option_or (first_denied who.table active held (each_byte Read from (to - from))) (first_denied who.table active held (each_byte Write out 16))
+        first_in (right who.table active held) (unit_plan who Tag core)
+        ≡ option_or (first_in (right who.table active held) (each_byte Read from (to - from))) (first_in (right who.table active held) (each_byte Write out 16))
     denied_by active held ok found e =
         let t = who.table in
         let bytes = each_byte Read from (to - from) in
         let tag = each_byte Write out 16 in
-        ap (first_denied t active held) (plan_by true e)
+        ap (first_in (right t active held)) (plan_by true e)
         ∙ denied-append t active held (bytes ++ tag) (text_reads own)
-        ∙ ap (option_or (first_denied t active held (bytes ++ tag))) (own_text_allowed t active active held own ok found)
-        ∙ or_none (first_denied t active held (bytes ++ tag))
+        ∙ ap (option_or (first_in (right t active held) (bytes ++ tag))) (own_text_allowed t active active held own ok found)
+        ∙ or_none (first_in (right t active held) (bytes ++ tag))
         ∙ denied-append t active held bytes tag
 
     module _ (mem : List ℕ) (size : length mem ≡ 65536) (own_ok : IsSection own.text) (e : in_ranges ≡ true) (order : from ≤ to) (fits : to ≤ 65536) where

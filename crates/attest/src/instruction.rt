@@ -5,7 +5,8 @@ ghost use Rattle.std.specs.Option.{option_map_or};
 ghost use Rattle.sm_words.specs.Words.{put};
 ghost use Rattle.mod_layout.specs.Table.{place_of};
 ghost use Rattle.mod_layout.specs.Tables.{IsModule, IsTable};
-ghost use Rattle.pc_access.specs.Rights.{first_denied};
+ghost use Rattle.mod_layout.specs.First.{first_in};
+ghost use Rattle.pc_access.specs.Rights.{right};
 ghost use Rattle.attest.specs.Units.{Attest, CallerId, IdOf, OwnId, Protect, Tag, Unprotect, blocks, in_range, new_ram, new_text, text_at, unit_plan};
 ghost use Rattle.attest.specs.Done.{IsDone, doer};
 ghost use Rattle.mem_map.specs.Contents.{SameMarks};
@@ -46,9 +47,9 @@ pub fn unit(
     node_key: &[u8; 16],
 ) -> Result<UnitDone, Denied>
     // By the first of its accesses that is refused, whatever modules wait in frames.
-    ensures denied { IfErr result (λ denied. (held : List ℕ) → first_denied table.old who.active held
+    ensures denied { IfErr result (λ denied. (held : List ℕ) → first_in (right table.old who.active held)
         (unit_plan (doer table.old who node_key.now) name core.old) ≡ Some denied) }
-    ensures allowed { OnOk result ((held : List ℕ) → first_denied table.old who.active held
+    ensures allowed { OnOk result ((held : List ℕ) → first_in (right table.old who.active held)
         (unit_plan (doer table.old who node_key.now) name core.old) ≡ None) }
 
     // Done, all is as the effect says; refused, nothing is changed.
@@ -89,7 +90,7 @@ fn unprotect(core: &mut Core, table: &ModuleTable, who: Who) -> UnitDone
 /// cleared. R15 is its id, or 0 where the table refuses it. No access of it is ever refused, since its
 /// data lie outside all modules.
 fn protect(core: &mut Core, memory: &mut Memory, table: &mut ModuleTable, who: Who) -> UnitDone
-    ensures allowed { (key held : List ℕ) → first_denied table.old who.active held
+    ensures allowed { (key held : List ℕ) → first_in (right table.old who.active held)
         (unit_plan (doer table.old who key) Protect core.old) ≡ None }
     ensures done { (key : List ℕ) → IsDone (doer table.old who key) Protect
         core.old memory.old.bytes core.new memory.new.bytes table.new result }
@@ -141,9 +142,9 @@ fn attest(
     who: Who,
     node_key: &[u8; 16],
 ) -> Result<UnitDone, Denied>
-    ensures denied { IfErr result (λ denied. (held : List ℕ) → first_denied table.now who.active held
+    ensures denied { IfErr result (λ denied. (held : List ℕ) → first_in (right table.now who.active held)
         (unit_plan (doer table.now who node_key.now) Attest core.old) ≡ Some denied) }
-    ensures allowed { OnOk result ((held : List ℕ) → first_denied table.now who.active held
+    ensures allowed { OnOk result ((held : List ℕ) → first_in (right table.now who.active held)
         (unit_plan (doer table.now who node_key.now) Attest core.old) ≡ None) }
     ensures done { IfOk result (λ done. IsDone (doer table.now who node_key.now) Attest
         core.old memory.now.bytes core.new memory.now.bytes table.now done) }
@@ -180,9 +181,9 @@ fn tag(
     who: Who,
     node_key: &[u8; 16],
 ) -> Result<UnitDone, Denied>
-    ensures denied { IfErr result (λ denied. (held : List ℕ) → first_denied table.now who.active held
+    ensures denied { IfErr result (λ denied. (held : List ℕ) → first_in (right table.now who.active held)
         (unit_plan (doer table.now who node_key.now) Tag core.old) ≡ Some denied) }
-    ensures allowed { OnOk result ((held : List ℕ) → first_denied table.now who.active held
+    ensures allowed { OnOk result ((held : List ℕ) → first_in (right table.now who.active held)
         (unit_plan (doer table.now who node_key.now) Tag core.old) ≡ None) }
     ensures done { IfOk result (λ done. IsDone (doer table.now who node_key.now) Tag
         core.old memory.old.bytes core.new memory.new.bytes table.now done) }

@@ -1,7 +1,8 @@
 //! The accesses of the unit instructions, checked byte by byte.
 
 ghost use Rattle.std.specs.Prelude.{◌≡◌, ◌≢◌, ◌+◌, ◌≤◌, ℕ, List, Some, None, OnOk, IfErr};
-ghost use Rattle.pc_access.specs.Rights.{first_denied, right};
+ghost use Rattle.mod_layout.specs.First.{first_in};
+ghost use Rattle.pc_access.specs.Rights.{right};
 ghost use Rattle.attest.specs.Units.{each_byte, in_range};
 
 use mod_layout::{DEVICES_END, ModuleTable};
@@ -27,9 +28,9 @@ pub fn check(
     requires data { kind ≢ Kind.Fetch }
     requires fits { start + count ≤ 65536 }
     ensures allowed { OnOk result ((held : List ℕ)
-        → first_denied table.now active held (each_byte kind start count) ≡ None) }
+        → first_in (right table.now active held) (each_byte kind start count) ≡ None) }
     ensures denied { IfErr result (λ denied. (held : List ℕ)
-        → first_denied table.now active held (each_byte kind start count) ≡ Some denied) }
+        → first_in (right table.now active held) (each_byte kind start count) ≡ Some denied) }
 {
     for offset in 0..count {
         if let Err(denied) = allowed(table, active, kind, start + offset, Width::Byte, &[]) {

@@ -2,7 +2,8 @@
 use Rattle.std.proofs.Common.{◌≡◌, ℕ, List, [], ◌∷◌, ◌++◌, refl, sym, ap, ◌∙◌, Option, Some, None}
 use Rattle.std.specs.Option.{option_or}
 use Rattle.mod_layout.specs.Table.{Table}
-use Rattle.pc_access.specs.Rights.{first_denied, right}
+use Rattle.mod_layout.specs.First.{first_in}
+use Rattle.pc_access.specs.Rights.{right}
 use Rattle.pc_access.specs.declared.Access.{Access}
 use Rattle.pc_access.specs.declared.Denied.{Denied}
 
@@ -11,16 +12,16 @@ or_assoc None b c = refl
 or_assoc (Some d) b c = refl
 
 pub denied_append : (t : Table) (active : Option ℕ) (held : List ℕ) (xs ys : List Access) →
-    first_denied t active held (xs ++ ys) ≡ option_or (first_denied t active held xs) (first_denied t active held ys)
+    first_in (right t active held) (xs ++ ys) ≡ option_or (first_in (right t active held) xs) (first_in (right t active held) ys)
 denied_append t active held [] ys = refl
 denied_append t active held (x ∷ xs) ys =
     ap (option_or (right t active held x)) (denied_append t active held xs ys)
-    ∙ sym (or_assoc (right t active held x) (first_denied t active held xs) (first_denied t active held ys))
+    ∙ sym (or_assoc (right t active held x) (first_in (right t active held) xs) (first_in (right t active held) ys))
 
 -- of three lists, the first that has one
 pub denied_three : (t : Table) (active : Option ℕ) (held : List ℕ) (xs ys zs : List Access) →
-    first_denied t active held ((xs ++ ys) ++ zs) ≡ option_or (first_denied t active held xs) (option_or (first_denied t active held ys) (first_denied t active held zs))
+    first_in (right t active held) ((xs ++ ys) ++ zs) ≡ option_or (first_in (right t active held) xs) (option_or (first_in (right t active held) ys) (first_in (right t active held) zs))
 denied_three t active held xs ys zs =
     denied_append t active held (xs ++ ys) zs
-    ∙ ap (λ (o : Option Denied). option_or o (first_denied t active held zs)) (denied_append t active held xs ys)
-    ∙ or_assoc (first_denied t active held xs) (first_denied t active held ys) (first_denied t active held zs)
+    ∙ ap (λ (o : Option Denied). option_or o (first_in (right t active held) zs)) (denied_append t active held xs ys)
+    ∙ or_assoc (first_in (right t active held) xs) (first_in (right t active held) ys) (first_in (right t active held) zs)

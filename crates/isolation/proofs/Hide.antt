@@ -9,7 +9,8 @@ use Rattle.insn_decode.specs.declared.insn.Insn.TheVariants.{Reti}
 use Rattle.mod_layout.specs.Table.{Table, place_of, size_of}
 use Rattle.mod_layout.specs.declared.Module.{Module}
 use Rattle.mod_layout.specs.declared.Place.TheVariants.{Data}
-use Rattle.pc_access.specs.Rights.{first_denied, is_id}
+use Rattle.mod_layout.specs.First.{first_in}
+use Rattle.pc_access.specs.Rights.{right, is_id}
 use Rattle.pc_access.specs.declared.Denied.{Denied}
 use Rattle.pc_access.specs.declared.Stop.{Stop}
 use Rattle.reg_backup.specs.Held.{held_ids}
@@ -103,9 +104,9 @@ module _ (m : ℕ) (own : Module) (t : Table) (sound : Sound m own t) where
   pub arrive_outside_veiled : (v : ℕ) (s : State) → s.table ≡ t → arrive_outside v (veil m own s) ≡ veil_step m own (arrive_outside v s)
   unfolding arrive_outside
   arrive_outside_veiled v s e =
-      ap (λ ids. unless (first_denied s.table None ids (pushes s)) (veil m own s) (push_both v (veil m own s))) (held_ids_veiled m s.frames)
-      ∙ push_veiled (first_denied s.table None (held_ids s.frames) (pushes s)) v s
-      (λ n. writes_out m own t sound None (held_ids s.frames) refl (pushes s) (ap (λ u. first_denied u None (held_ids s.frames) (pushes s)) (sym e) ∙ n))
+      ap (λ ids. unless (first_in (right s.table None ids) (pushes s)) (veil m own s) (push_both v (veil m own s))) (held_ids_veiled m s.frames)
+      ∙ push_veiled (first_in (right s.table None (held_ids s.frames)) (pushes s)) v s
+      (λ n. writes_out m own t sound None (held_ids s.frames) refl (pushes s) (ap (λ u. first_in (right u None (held_ids s.frames)) (pushes s)) (sym e) ∙ n))
 
   module _ (s : State) (table_is : s.table ≡ t) (other : is_id m s.active ≡ false) where
     -- ---- an instruction's accesses and changes
@@ -122,14 +123,14 @@ module _ (m : ℕ) (own : Module) (t : Table) (sound : Sound m own t) where
     unfolding attempt
     attempt_veiled insn =
         let xs = asks (who_of s) insn s.core in
-        ap (λ ids. unless (first_denied s.table s.active ids xs) (veil m own s) (perform insn (veil m own s))) (held_ids_veiled m s.frames)
-        ∙ by_check (first_denied s.table s.active (held_ids s.frames) xs) refl
+        ap (λ ids. unless (first_in (right s.table s.active ids) xs) (veil m own s) (perform insn (veil m own s))) (held_ids_veiled m s.frames)
+        ∙ by_check (first_in (right s.table s.active (held_ids s.frames)) xs) refl
       where
-        by_check : (d : Option Denied) → first_denied s.table s.active (held_ids s.frames) (asks (who_of s) insn s.core) ≡ d → unless d (veil m own s) (perform insn (veil m own s)) ≡ veil_step m own (unless d s (perform insn s))
+        by_check : (d : Option Denied) → first_in (right s.table s.active (held_ids s.frames)) (asks (who_of s) insn s.core) ≡ d → unless d (veil m own s) (perform insn (veil m own s)) ≡ veil_step m own (unless d s (perform insn s))
         by_check (Some d) e = refl
         by_check None e =
             let xs = asks (who_of s) insn s.core in
-            let e' = ap (λ u. first_denied u s.active (held_ids s.frames) xs) (sym table_is) ∙ e in
+            let e' = ap (λ u. first_in (right u s.active (held_ids s.frames)) xs) (sym table_is) ∙ e in
             perform_veiled insn (reads_out m own t sound s.active (held_ids s.frames) other xs e') (writes_out m own t sound s.active (held_ids s.frames) other xs e')
 
     without_newest_veiled : (fs : List Frame) → drop 1 (veil_frames m fs) ≡ veil_frames m (drop 1 fs)

@@ -12,7 +12,8 @@ use Rattle.insn_decode.specs.declared.insn.Insn.TheVariants.{Reti, Unit as UnitO
 use Rattle.mod_layout.specs.Table.{Table, place_of, module_of, size_of, holds}
 use Rattle.mod_layout.specs.declared.Module.{Module}
 use Rattle.mod_layout.specs.declared.Section.{Section}
-use Rattle.pc_access.specs.Rights.{right, right_at, first_denied, misaligned, refuse_if}
+use Rattle.mod_layout.specs.First.{first_in}
+use Rattle.pc_access.specs.Rights.{right, right_at, misaligned, refuse_if}
 use Rattle.pc_access.specs.declared.Rule.TheVariants.{Misaligned}
 use Rattle.pc_access.specs.declared.Access.{Access}
 use Rattle.pc_access.specs.declared.Kind.{Kind}
@@ -253,10 +254,10 @@ module _ (m : ℕ) (own : Module) (t : Table) (sound : Sound m own t) (j : Job) 
         ap (λ b. option_or (refuse_if b Misaligned a 0) (right_at (place_of t a) (Some m) held Write a)) e ∙ may_write a (and_parts (not (misaligned w a)) (holds own.ram a) h').1
     allowed_by Fetch w a h = absurd (let k = (and_parts (not (misaligned w a)) false h).1 in cc)
 
-    all_allowed : (xs : List Access) → all_inside j xs ≡ true → first_denied t (Some m) held xs ≡ None
+    all_allowed : (xs : List Access) → all_inside j xs ≡ true → first_in (right t (Some m) held) xs ≡ None
     all_allowed [] h = refl
     all_allowed (x ∷ xs) h =
-        ap (λ d. option_or d (first_denied t (Some m) held xs)) (allowed_by x.kind x.width x.addr (and_parts (is_inside j x) (all_inside j xs) h).0) ∙ all_allowed xs (and_parts (is_inside j x) (all_inside j xs) h).1
+        ap (λ d. option_or d (first_in (right t (Some m) held) xs)) (allowed_by x.kind x.width x.addr (and_parts (is_inside j x) (all_inside j xs) h).0) ∙ all_allowed xs (and_parts (is_inside j x) (all_inside j xs) h).1
 
   -- ---- words in the text
   text_even : (a : ℕ) → a % 2 ≡ 0 → holds own.text a ≡ true → InBy Word in_sections a

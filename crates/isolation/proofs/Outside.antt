@@ -7,7 +7,8 @@ use Rattle.insn_decode.specs.declared.insn.Insn.TheVariants.{Reti}
 use Rattle.mod_layout.specs.Table.{size_of, place_of}
 use Rattle.mod_layout.specs.declared.Module.{Module}
 use Rattle.mod_layout.specs.declared.Place.TheVariants.{Data}
-use Rattle.pc_access.specs.Rights.{is_id, first_denied}
+use Rattle.mod_layout.specs.First.{first_in}
+use Rattle.pc_access.specs.Rights.{is_id, right}
 use Rattle.pc_access.specs.declared.Stop.{Stop}
 use Rattle.reg_backup.specs.Held.{held_ids}
 use Rattle.reg_backup.specs.declared.frames.Frame.{Frame}
@@ -94,7 +95,7 @@ module _ (m : ℕ) (own : Module) (key text : List ℕ) where
 
     -- ---- instructions
     -- what is done, where frames may go that are no module's
-    perform_stays : (insn : Insn) (fs : List Frame) → find_held m fs ≡ find_held m s.frames → times m fs ≡ times m s.frames → first_denied s.table s.active (held_ids s.frames) (asks (who_of s) insn s.core) ≡ None →
+    perform_stays : (insn : Insn) (fs : List Frame) → find_held m fs ≡ find_held m s.frames → times m fs ≡ times m s.frames → first_in (right s.table s.active (held_ids s.frames)) (asks (who_of s) insn s.core) ≡ None →
         Stays m own key text s (record (perform insn s).state { frames = fs })
     unfolding perform
     perform_stays insn fs f t e =
@@ -115,7 +116,7 @@ module _ (m : ℕ) (own : Module) (key text : List ℕ) where
     unfolding perform
     returned_acts f t = attempt_ways s (λ u. Acts (returned_by u.state.stop u)) Reti (λ d. light_acts (denied d s) (refl, refl, refl, refl, refl)) (by s.stop)
       where
-        by : (o : Option Stop) → first_denied s.table s.active (held_ids s.frames) (asks (who_of s) Reti s.core) ≡ None → Acts (returned_by o (perform Reti s))
+        by : (o : Option Stop) → first_in (right s.table s.active (held_ids s.frames)) (asks (who_of s) Reti s.core) ≡ None → Acts (returned_by o (perform Reti s))
         by (Some stop) e = (refl, perform_stays Reti s.frames refl refl e)
         by None e = (refl, perform_stays Reti (drop 1 s.frames) f t e)
 

@@ -10,7 +10,8 @@ use Rattle.insn_decode.proofs.Unread.{none_outside, outside_none}
 use Rattle.mod_layout.specs.Table.{Table, place_of}
 use Rattle.mod_layout.specs.declared.Place.{Place}
 use Rattle.mod_layout.specs.declared.Place.TheVariants.{Open, Entry}
-use Rattle.pc_access.specs.Rights.{first_denied, right, refuse_if}
+use Rattle.mod_layout.specs.First.{first_in}
+use Rattle.pc_access.specs.Rights.{right, refuse_if}
 use Rattle.pc_access.specs.declared.Access.{Access}
 use Rattle.pc_access.specs.declared.Denied.{Denied}
 use Rattle.pc_access.specs.declared.Rule.TheVariants.{RetiInside, Straddle, Illegal}
@@ -37,7 +38,7 @@ abbrev Stops : Step → Option Denied → State → Type 0
 Stops t d s = t.state.stop ≡ stop_at d s
 
 -- the first refusal among accesses is the first of their checks
-first_of_map : (t : Table) (active : Option ℕ) (held : List ℕ) (xs : List Access) → first_refused (map (right t active held) xs) ≡ first_denied t active held xs
+first_of_map : (t : Table) (active : Option ℕ) (held : List ℕ) (xs : List Access) → first_refused (map (right t active held) xs) ≡ first_in (right t active held) xs
 first_of_map t active held [] = refl
 first_of_map t active held (x ∷ xs) = ap (option_or (right t active held x)) (first_of_map t active held xs)
 
@@ -45,7 +46,7 @@ first_of_map t active held (x ∷ xs) = ap (option_or (right t active held x)) (
 
 -- the first refusal among accesses that a state's module asks for
 abbrev refusal : List Access → State → Option Denied
-refusal xs s = first_denied s.table s.active (held_ids s.frames) xs
+refusal xs s = first_in (right s.table s.active (held_ids s.frames)) xs
 
 unless_stops : (d : Option Denied) (insn : Insn) (s : State) → s.stop ≡ None → Stops (unless d s (perform insn s)) d s
 unfolding perform
@@ -194,7 +195,7 @@ push_stops None v s h = h
 outside_stops : (v : ℕ) (s : State) → s.stop ≡ None → Stops (arrive_outside v s) (first_refused (map (check_of None s) (pushes s))) s
 unfolding arrive_outside
 outside_stops v s h =
-    push_stops (first_denied s.table None (held_ids s.frames) (pushes s)) v s h ∙ ap (λ d. stop_at d s) (sym (first_of_map s.table None (held_ids s.frames) (pushes s)))
+    push_stops (first_in (right s.table None (held_ids s.frames)) (pushes s)) v s h ∙ ap (λ d. stop_at d s) (sym (first_of_map s.table None (held_ids s.frames) (pushes s)))
 
 by_stops : (d a : Option ℕ) (p : Phase) (left : ℕ) (s : State) → s.stop ≡ None → Stops (turn_at d a p left s) (first_refused (checks_at d a p s)) s
 unfolding arrive_inside

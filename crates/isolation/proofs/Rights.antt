@@ -10,7 +10,8 @@ use Rattle.mod_layout.specs.Table.{Table, place_of, module_of, size_of, holds}
 use Rattle.mod_layout.specs.Tables.{IsModule, IsTable}
 use Rattle.mod_layout.specs.declared.Module.{Module}
 use Rattle.mod_layout.specs.declared.Place.TheVariants.{Entry, Text, Data}
-use Rattle.pc_access.specs.Rights.{right, right_at, misaligned, first_denied, is_id}
+use Rattle.mod_layout.specs.First.{first_in}
+use Rattle.pc_access.specs.Rights.{right, right_at, misaligned, is_id}
 use Rattle.pc_access.specs.declared.Access.{Access}
 use Rattle.pc_access.specs.declared.Denied.{Denied}
 use Rattle.pc_access.specs.declared.Kind.{Kind}
@@ -39,10 +40,10 @@ none_or None q e = (refl, e)
 none_or (Some d) q e = absurd cc
 
 allowed_each : (t : Table) (active : Option ℕ) (held : List ℕ) (xs : List Access) →
-    first_denied t active held xs ≡ None → Each (λ x. right t active held x ≡ None) xs
+    first_in (right t active held) xs ≡ None → Each (λ x. right t active held x ≡ None) xs
 allowed_each t active held [] e = tt
 allowed_each t active held (x ∷ xs) e =
-    let p = none_or (right t active held x) (first_denied t active held xs) e in (p.0, allowed_each t active held xs p.1)
+    let p = none_or (right t active held x) (first_in (right t active held) xs) e in (p.0, allowed_each t active held xs p.1)
 
 -- what holds of each read or write of a kind that may be
 each_if : (P : Access → Type 0) (b : Bool) (x : Access) (ys : List Access) → (b ≡ true → P x) → Each P ys → Each P (cond b (x ∷ ys) ys)
@@ -112,11 +113,11 @@ module _ (m : ℕ) (own : Module) (t : Table) (sound : Sound m own t) where
         out_width w own.ram.start (size_of own.ram) a sound.own_ok.ram_ok.even_start p.0 (out_place a (not_written a p.1))
     write_out _ w a f e = cc
 
-    pub reads_out : (xs : List Access) → first_denied t active held xs ≡ None → Each (OutAccess own.ram.start (size_of own.ram)) (reads_of xs)
+    pub reads_out : (xs : List Access) → first_in (right t active held) xs ≡ None → Each (OutAccess own.ram.start (size_of own.ram)) (reads_of xs)
     reads_out xs e = each_read (OutAccess own.ram.start (size_of own.ram)) (λ x. right t active held x ≡ None)
         (λ x. read_out x.kind x.width x.addr) xs (allowed_each t active held xs e)
 
-    pub writes_out : (xs : List Access) → first_denied t active held xs ≡ None → Each (OutAccess own.ram.start (size_of own.ram)) (writes_of xs)
+    pub writes_out : (xs : List Access) → first_in (right t active held) xs ≡ None → Each (OutAccess own.ram.start (size_of own.ram)) (writes_of xs)
     writes_out xs e = each_write (OutAccess own.ram.start (size_of own.ram)) (λ x. right t active held x ≡ None)
         (λ x. write_out x.kind x.width x.addr) xs (allowed_each t active held xs e)
 
@@ -142,6 +143,6 @@ module _ (m : ℕ) (own : Module) (t : Table) (sound : Sound m own t) (active : 
       out_width w own.text.start (size_of own.text) a sound.own_ok.text_ok.even_start p.0 (text_out_of a p.1)
   text_out _ w a f e = cc
 
-  pub text_writes_out : (xs : List Access) → first_denied t active held xs ≡ None → Each (OutAccess own.text.start (size_of own.text)) (writes_of xs)
+  pub text_writes_out : (xs : List Access) → first_in (right t active held) xs ≡ None → Each (OutAccess own.text.start (size_of own.text)) (writes_of xs)
   text_writes_out xs e = each_write (OutAccess own.text.start (size_of own.text)) (λ x. right t active held x ≡ None)
       (λ x. text_out x.kind x.width x.addr) xs (allowed_each t active held xs e)

@@ -9,7 +9,8 @@ use Rattle.mod_layout.specs.Table.{place_of}
 use Rattle.mod_layout.specs.declared.Module.{Module}
 use Rattle.mod_layout.specs.declared.Place.{Place}
 use Rattle.mod_layout.specs.declared.Place.TheVariants.{Entry}
-use Rattle.pc_access.specs.Rights.{first_denied, right}
+use Rattle.mod_layout.specs.First.{first_in}
+use Rattle.pc_access.specs.Rights.{right}
 use Rattle.pc_access.specs.declared.Denied.{Denied}
 use Rattle.pc_access.specs.declared.Rule.{Rule}
 use Rattle.pc_access.specs.declared.Rule.TheVariants.{Illegal, Straddle, RetiInside}
@@ -40,15 +41,15 @@ use Rattle.isolation.proofs.Cases.{turn_at, turn_unless, turn_is, interrupted}
 use Rattle.isolation.specs.Calls.{rest_of}
 
 module _ (s : State) (P : Step → Type 0) where
-  unless_ways : (insn : Insn) (d : Option Denied) → first_denied s.table s.active (held_ids s.frames) (asks (who_of s) insn s.core) ≡ d → ((d : Denied) → P (denied d s))
-      → (first_denied s.table s.active (held_ids s.frames) (asks (who_of s) insn s.core) ≡ None → P (perform insn s)) → P (unless d s (perform insn s))
+  unless_ways : (insn : Insn) (d : Option Denied) → first_in (right s.table s.active (held_ids s.frames)) (asks (who_of s) insn s.core) ≡ d → ((d : Denied) → P (denied d s))
+      → (first_in (right s.table s.active (held_ids s.frames)) (asks (who_of s) insn s.core) ≡ None → P (perform insn s)) → P (unless d s (perform insn s))
   unless_ways insn (Some d) e refused done = refused d
   unless_ways insn None e refused done = done e
 
   -- an instruction that is refused an access, or done
-  pub attempt_ways : (insn : Insn) → ((d : Denied) → P (denied d s)) → (first_denied s.table s.active (held_ids s.frames) (asks (who_of s) insn s.core) ≡ None → P (perform insn s)) → P (attempt insn s)
+  pub attempt_ways : (insn : Insn) → ((d : Denied) → P (denied d s)) → (first_in (right s.table s.active (held_ids s.frames)) (asks (who_of s) insn s.core) ≡ None → P (perform insn s)) → P (attempt insn s)
   unfolding attempt
-  attempt_ways insn refused done = unless_ways insn (first_denied s.table s.active (held_ids s.frames) (asks (who_of s) insn s.core)) refl refused done
+  attempt_ways insn refused done = unless_ways insn (first_in (right s.table s.active (held_ids s.frames)) (asks (who_of s) insn s.core)) refl refused done
 
   -- what is at PC, with what a return gives
   module _ (stops : (rule : Rule) → P (stopped rule (pc_of s) 0 s)) (returns : P (reti_by s.active s.frames s)) (attempts : (insn : Insn) → P (attempt insn s)) where
@@ -106,11 +107,11 @@ module _ (s : State) (P : Step → Type 0) where
 
   -- pushes that are refused, or done
   pub outside_ways : (v : ℕ) → ((d : Denied) → P (denied d s)) →
-      (first_denied s.table None (held_ids s.frames) (pushes s) ≡ None → P (push_both v s)) → P (arrive_outside v s)
+      (first_in (right s.table None (held_ids s.frames)) (pushes s) ≡ None → P (push_both v s)) → P (arrive_outside v s)
   unfolding arrive_outside
-  outside_ways v refused pushed = by (first_denied s.table None (held_ids s.frames) (pushes s)) refl
+  outside_ways v refused pushed = by (first_in (right s.table None (held_ids s.frames)) (pushes s)) refl
     where
-      by : (d : Option Denied) → first_denied s.table None (held_ids s.frames) (pushes s) ≡ d → P (unless d s (push_both v s))
+      by : (d : Option Denied) → first_in (right s.table None (held_ids s.frames)) (pushes s) ≡ d → P (unless d s (push_both v s))
       by (Some d) e = refused d
       by None e = pushed e
 

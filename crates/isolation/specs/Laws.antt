@@ -7,7 +7,8 @@ use Rattle.mod_layout.specs.Table.{Table, module_of, size_of, takes}
 use Rattle.mod_layout.specs.Tables.{IsTable}
 use Rattle.mod_layout.specs.declared.Module.{Module}
 use Rattle.mod_layout.specs.declared.Section.{Section}
-use Rattle.pc_access.specs.Rights.{first_denied, is_id}
+use Rattle.mod_layout.specs.First.{first_in}
+use Rattle.pc_access.specs.Rights.{right, is_id}
 use Rattle.pc_access.specs.declared.Kind.TheVariants.{Write}
 use Rattle.image_text.specs.Image.{Image, IsImage}
 use Rattle.reg_backup.specs.declared.frames.TheConstants.{MOST_FRAMES}
@@ -247,9 +248,9 @@ StopRefused = (s : State) → s.stop ≡ None → (cycle s).state.stop ≡ refus
 -- Reads of a module's text are refused to no one: so of a unit instruction's accesses only those are refused that its registers name.
 abbrev pub TextReadable : Type 0
 TextReadable = (t : Table) (m : ℕ) (owner : Module) (active : Option ℕ) (held : List ℕ) → IsTable t → module_of m t ≡ Some owner →
-    first_denied t active held (text_reads owner) ≡ None
+    first_in (right t active held) (text_reads owner) ≡ None
 
 -- The zeros that a new module's data begin with are refused to no one, where the table takes the module.
 abbrev pub ZerosWritable : Type 0
 ZerosWritable = (t : Table) (text ram : Section) (active : Option ℕ) (held : List ℕ) → IsTable t → takes t text ram ≡ true →
-    first_denied t active held (each_byte Write ram.start (size_of ram)) ≡ None
+    first_in (right t active held) (each_byte Write ram.start (size_of ram)) ≡ None

@@ -21,7 +21,8 @@ use Rattle.mod_layout.specs.declared.Place.{Place}
 use Rattle.mod_layout.specs.declared.Place.TheVariants.{Open, Entry, Text, Data}
 use Rattle.mod_layout.proofs.Found.{module_found, and_true, place_by}
 use Rattle.mod_layout.proofs.TableLemmas.{taken}
-use Rattle.pc_access.specs.Rights.{right, right_at, refuse_if, misaligned, first_denied}
+use Rattle.mod_layout.specs.First.{first_in}
+use Rattle.pc_access.specs.Rights.{right, right_at, refuse_if, misaligned}
 use Rattle.pc_access.specs.declared.Rule.TheVariants.{Misaligned}
 use Rattle.pc_access.specs.declared.Access.{Access}
 use Rattle.pc_access.specs.declared.Denied.{Denied}
@@ -98,9 +99,9 @@ or_word None q h g = g
 abbrev pub AtWord : Access → Type 0
 AtWord x = IsWord x.addr
 
-pub denied_word : (t : Table) (active : Option ℕ) (held : List ℕ) (xs : List Access) → TableFine t → Each AtWord xs → IsWordDenied (first_denied t active held xs)
+pub denied_word : (t : Table) (active : Option ℕ) (held : List ℕ) (xs : List Access) → TableFine t → Each AtWord xs → IsWordDenied (first_in (right t active held) xs)
 denied_word t active held [] f h = tt
-denied_word t active held (x ∷ xs) f h = or_word (right t active held x) (first_denied t active held xs) (right_word t active held x f h.0) (denied_word t active held xs f h.1)
+denied_word t active held (x ∷ xs) f h = or_word (right t active held x) (first_in (right t active held) xs) (right_word t active held x f h.0) (denied_word t active held xs f h.1)
 
 -- ---- what an instruction asks for
 

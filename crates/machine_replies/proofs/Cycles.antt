@@ -13,7 +13,8 @@ use Rattle.mod_layout.specs.declared.Module.{Module}
 use Rattle.mod_layout.specs.declared.Place.{Place}
 use Rattle.mod_layout.specs.declared.Place.TheVariants.{Entry}
 use Rattle.pc_access.specs.Accesses.{reads_of, writes_of}
-use Rattle.pc_access.specs.Rights.{first_denied, right}
+use Rattle.mod_layout.specs.First.{first_in}
+use Rattle.pc_access.specs.Rights.{right}
 use Rattle.pc_access.specs.declared.Access.{Access}
 use Rattle.pc_access.specs.declared.Denied.{Denied}
 use Rattle.pc_access.specs.declared.Rule.{Rule}
@@ -78,7 +79,7 @@ unless_event None insn s f h = perform_event insn s f
 attempt_event : (insn : Insn) (s : State) → Fine s → IsWordInsn insn → AreEvents (attempt insn s).events
 unfolding attempt
 attempt_event insn s f h =
-    unless_event (first_denied s.table s.active (held_ids s.frames) (asks (who_of s) insn s.core)) insn s f
+    unless_event (first_in (right s.table s.active (held_ids s.frames)) (asks (who_of s) insn s.core)) insn s f
     (denied_word s.table s.active (held_ids s.frames) (asks (who_of s) insn s.core) (f.table_ok, f.given_small)
     (asks_word (who_of s) insn s.core f.core_ok f.table_ok (own_module s.table s.active f.table_ok) h))
 
@@ -186,7 +187,7 @@ push_event None v s f g h = (g, tt)
 outside_event : (v : ℕ) (s : State) → Fine s → v < 256 → AreEvents (arrive_outside v s).events
 unfolding arrive_outside
 outside_event v s f g =
-    push_event (first_denied s.table None (held_ids s.frames) (pushes s)) v s f g
+    push_event (first_in (right s.table None (held_ids s.frames)) (pushes s)) v s f g
     (denied_word s.table None (held_ids s.frames) (pushes s) (f.table_ok, f.given_small) (omega arith, (omega arith, tt)))
 
 inside_event : (v id rest : ℕ) (s : State) → v < 256 → IsWord id → AreEvents (arrive_inside v id rest s).events
@@ -321,7 +322,7 @@ unless_sends None insn s = perform_sends insn s
 
 attempt_sends : (insn : Insn) (s : State) → Goes s (attempt insn s).state
 unfolding attempt
-attempt_sends insn s = unless_sends (first_denied s.table s.active (held_ids s.frames) (asks (who_of s) insn s.core)) insn s
+attempt_sends insn s = unless_sends (first_in (right s.table s.active (held_ids s.frames)) (asks (who_of s) insn s.core)) insn s
 
 returned_sends : (o : Option Stop) (t : Step) → IsMaybeByte t.state.devices.sent → IsMaybeByte (returned_by o t).state.devices.sent
 returned_sends (Some stop) t h = h
@@ -387,7 +388,7 @@ push_sends None v s = λ k.
 
 outside_sends : (v : ℕ) (s : State) → Goes s (arrive_outside v s).state
 unfolding arrive_outside
-outside_sends v s = push_sends (first_denied s.table None (held_ids s.frames) (pushes s)) v s
+outside_sends v s = push_sends (first_in (right s.table None (held_ids s.frames)) (pushes s)) v s
 
 inside_sends : (v id rest : ℕ) (s : State) → Goes s (arrive_inside v id rest s).state
 unfolding arrive_inside

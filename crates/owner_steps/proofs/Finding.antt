@@ -7,7 +7,8 @@ use Rattle.insn_decode.specs.declared.insn.Insn.{Insn}
 use Rattle.insn_decode.specs.declared.insn.Insn.TheVariants.{Reti, Unit as UnitOp}
 use Rattle.insn_decode.proofs.Unread.{length_same, none_outside, outside_none}
 use Rattle.mod_layout.specs.Table.{Table}
-use Rattle.pc_access.specs.Rights.{first_denied, refuse_if, right}
+use Rattle.mod_layout.specs.First.{first_in}
+use Rattle.pc_access.specs.Rights.{refuse_if, right}
 use Rattle.pc_access.specs.declared.Access.{Access}
 use Rattle.pc_access.specs.declared.Denied.{Denied}
 use Rattle.pc_access.specs.declared.Rule.{Rule}
@@ -49,19 +50,19 @@ not_refused : (b : Bool) (rule : Rule) (a id : ℕ) → refuse_if (not b) rule a
 not_refused true rule a id e = refl
 not_refused false rule a id e = absurd cc
 
-first_of_map : (t : Table) (active : Option ℕ) (held : List ℕ) (xs : List Access) → first_refused (map (right t active held) xs) ≡ first_denied t active held xs
+first_of_map : (t : Table) (active : Option ℕ) (held : List ℕ) (xs : List Access) → first_refused (map (right t active held) xs) ≡ first_in (right t active held) xs
 first_of_map t active held [] = refl
 first_of_map t active held (x ∷ xs) = ap (option_or (right t active held x)) (first_of_map t active held xs)
 
 no_access : AreAligned []
 no_access k d i = absurd (omega arith)
 
-reti_aligned : (fs : List Frame) (s : State) → first_denied s.table s.active (held_ids s.frames) (asked_to_return fs s) ≡ None → AreAligned (plan_shown Reti fs s.core)
+reti_aligned : (fs : List Frame) (s : State) → first_in (right s.table s.active (held_ids s.frames)) (asked_to_return fs s) ≡ None → AreAligned (plan_shown Reti fs s.core)
 unfolding asks
 reti_aligned (Held b ∷ fs) s e = no_access
 reti_aligned _ s e = plan_aligned s.table s.active (held_ids s.frames) Reti s.core e
 
-shown_aligned : (insn : Insn) (s : State) → first_denied s.table s.active (held_ids s.frames) (asked_by (Some insn) s) ≡ None → AreAligned (plan_shown insn s.frames s.core)
+shown_aligned : (insn : Insn) (s : State) → first_in (right s.table s.active (held_ids s.frames)) (asked_by (Some insn) s) ≡ None → AreAligned (plan_shown insn s.frames s.core)
 unfolding asks
 shown_aligned (UnitOp n) s e = no_access
 shown_aligned Reti s e = reti_aligned s.frames s e
@@ -70,7 +71,7 @@ shown_aligned insn s e = plan_aligned s.table s.active (held_ids s.frames) insn 
 -- no word of it is away from home, and no access is refused
 record Unrefused (s : State) : Type 0 where
   home : is_home s.table s.active (pc_of s) (length_at (first_word s)) ≡ true
-  accesses : first_denied s.table s.active (held_ids s.frames) (asked_by (insn_at_pc s) s) ≡ None
+  accesses : first_in (right s.table s.active (held_ids s.frames)) (asked_by (insn_at_pc s) s) ≡ None
 
 unrefused : (s : State) → first_refused (later_checks s) ≡ None → Unrefused s
 unrefused s e =
@@ -125,8 +126,8 @@ one_there s insn f b e core_is past_is lines_are refused =
     let long : length_of insn ≡ length_at (first_word t) = length_same (word_at (byte_of s) (pc_of s)) (word_at (byte_of s) (add16 (pc_of s) 2)) (word_at (byte_of s) (add16 (pc_of s) 4)) insn e in
     let home : is_home t.table t.active (pc_of t) (length_of insn) ≡ true = ap (λ (n : ℕ). is_home t.table t.active (pc_of t) n) long ∙ un.home in
     let at : insn_at_pc t ≡ Some insn = ap (λ (n : ℕ). insn_at (byte_of t) (pc_of t) n) (sym long) ∙ home_whole t insn e home in
-    let accesses : first_denied t.table t.active (held_ids t.frames) (asked_by (Some insn) t) ≡ None =
-    ap (λ (o : Option Insn). first_denied t.table t.active (held_ids t.frames) (asked_by o t)) (sym at) ∙ un.accesses
+    let accesses : first_in (right t.table t.active (held_ids t.frames)) (asked_by (Some insn) t) ≡ None =
+    ap (λ (o : Option Insn). first_in (right t.table t.active (held_ids t.frames)) (asked_by o t)) (sym at) ∙ un.accesses
     in
     let lines : f.lines.bytes ≡ (begun_as t insn).lines = lines_are (shown_aligned insn t accesses) in
     let same : begun_of f ≡ begun_as t insn =

@@ -116,10 +116,3 @@ pub record IsRightful (t : Table) (active : Option ℕ) (held : List ℕ) (x : A
   pub aligned : is_misaligned x ≡ false
   pub granted : list_all (λ a. is_granted t active x.kind a) (touched x) ≡ true
   pub free : is_barred_at (place_of t x.addr) held x.kind x.addr ≡ false
-
--- ---- several accesses
-
--- the first refusal among accesses in their order
-abbrev pub first_denied : Table → Option ℕ → List ℕ → List Access → Option Denied
-first_denied t active held [] = None
-first_denied t active held (x ∷ xs) = option_or (right t active held x) (first_denied t active held xs)

@@ -14,7 +14,8 @@ use Rattle.mod_layout.specs.declared.Module.{Module}
 use Rattle.mod_layout.specs.declared.Place.{Place}
 use Rattle.mod_layout.specs.declared.Place.TheVariants.{Open, Entry, Text}
 use Rattle.pc_access.specs.Accesses.{reads_of, writes_of}
-use Rattle.pc_access.specs.Rights.{right, first_denied}
+use Rattle.mod_layout.specs.First.{first_in}
+use Rattle.pc_access.specs.Rights.{right}
 use Rattle.pc_access.specs.declared.Access.{Access}
 use Rattle.pc_access.specs.declared.Denied.{Denied}
 use Rattle.pc_access.specs.declared.Kind.TheVariants.{Fetch, Write}
@@ -188,7 +189,7 @@ push_both v s =
 
 -- the outside is interrupted, where both pushes are allowed
 unfoldable pub arrive_outside : ℕ → State → Step
-arrive_outside v s = unless (first_denied s.table None (held_ids s.frames) (pushes s)) s (push_both v s)
+arrive_outside v s = unless (first_in (right s.table None (held_ids s.frames)) (pushes s)) s (push_both v s)
 
 -- ---- an instruction begins
 
@@ -236,7 +237,7 @@ perform insn s =
 -- an instruction whose accesses are checked in their order before any is done
 unfoldable pub attempt : Insn → State → Step
 attempt insn s =
-    unless (first_denied s.table s.active (held_ids s.frames) (asks (who_of s) insn s.core)) s (perform insn s)
+    unless (first_in (right s.table s.active (held_ids s.frames)) (asks (who_of s) insn s.core)) s (perform insn s)
 
 -- the newest frame, a Plain one, goes, unless the machine stopped
 abbrev pub returned_by : Option Stop → Step → Step

@@ -2,7 +2,8 @@ use Rattle.std.proofs.Common.{◌≡◌, ◌∙◌, ◌+◌, ◌*◌, Bool, true
 use Rattle.std.specs.Prelude.{bytes_eq}
 use Rattle.sm_words.specs.Words.{reg}
 use Rattle.mod_layout.specs.Table.{place_of, size_of}
-use Rattle.pc_access.specs.Rights.{first_denied}
+use Rattle.mod_layout.specs.First.{first_in}
+use Rattle.pc_access.specs.Rights.{right}
 use Rattle.pc_access.specs.declared.Kind.TheVariants.{Read}
 use Rattle.attest.specs.Units.{answer, attested, blocks, each_byte, in_range, text_at}
 use Rattle.attest.specs.Done.{doer}
@@ -23,7 +24,7 @@ returns-in_default c =
     let none = sym c.own.ensures.own ∙ c.in_default.is in
     record {
       denied = tt;
-      allowed = λ held. ap (first_denied c.args.table.now c.args.who.active held) (plan_outside who c.args.core.now none);
+      allowed = λ held. ap (first_in (right c.args.table.now c.args.who.active held)) (plan_outside who c.args.core.now none);
       done = answered _ _ _ _ 0 6 _ _ _ (effect_outside who c.args.core.now _ none) c.answer.ensures.core c.answer.ensures.done refl refl;
       core_kept = tt;
     }
@@ -35,7 +36,7 @@ returns-in_default-text_module c =
     let nothing : attested who c.args.core.now ≡ None = ap (λ a. text_at c.args.table.now (place_of c.args.table.now a)) (sym c.get.ensures.word) ∙ sym c.text_module.ensures.text ∙ c.in_default-text_module.is in
     record {
       denied = tt;
-      allowed = λ held. ap (first_denied c.args.table.now c.args.who.active held) (plan_nothing who c.args.core.now c.in-Some.own own_is nothing);
+      allowed = λ held. ap (first_in (right c.args.table.now c.args.who.active held)) (plan_nothing who c.args.core.now c.in-Some.own own_is nothing);
       done = answered _ _ _ _ 0 6 _ _ _ (effect_nothing who c.args.core.now c.in-Some.own own_is _ nothing) c.answer-in_default-text_module.ensures.core c.answer-in_default-text_module.ensures.done refl refl;
       core_kept = tt;
     }
@@ -51,7 +52,7 @@ returns-then-not-in_range c =
     let range = range_is (reg core 13) _ _ _ _ c.in_range.ensures (c.from.ensures ∙ c.get-expected.ensures.word) (c.from-2.ensures ∙ c.get-expected.ensures.word) c.if-not-in_range.true in
     record {
       denied = tt;
-      allowed = λ held. ap (first_denied t c.args.who.active held) (plan_by who core c.in-Some.own own_is c.in-Some-text_module.other other_is false range);
+      allowed = λ held. ap (first_in (right t c.args.who.active held)) (plan_by who core c.in-Some.own own_is c.in-Some-text_module.other other_is false range);
       done = answered _ _ _ _ 0 6 _ _ _ (effect_by who core c.in-Some.own own_is c.in-Some-text_module.other other_is _ false range)
           c.answer-then-not-in_range.ensures.core c.answer-then-not-in_range.ensures.done refl refl;
       core_kept = tt;
@@ -67,7 +68,7 @@ returns-in-Err-clause-denied c = λ held.
     ap (λ a. text_at t (place_of t a)) (sym c.get.ensures.word) ∙ sym c.text_module.ensures.text ∙ c.in-Some-text_module.is in
     let range = range_is (reg core 13) _ _ _ _ c.in_range.ensures (c.from.ensures ∙ c.get-expected.ensures.word) (c.from-2.ensures ∙ c.get-expected.ensures.word) c.if-not-in_range.false in
     denied_by who core c.in-Some.own own_is c.in-Some-text_module.other other_is c.args.who.active held (Some c.in-Err.denied) c.text_module.ensures.table own_is range
-    (ap (λ a. first_denied t c.args.who.active held (each_byte Read a 16)) (sym c.get-expected.ensures.word) ∙ c.in-Err.ensures.denied held)
+    (ap (λ a. first_in (right t c.args.who.active held) (each_byte Read a 16)) (sym c.get-expected.ensures.word) ∙ c.in-Err.ensures.denied held)
 
 pub returns : goal.returns
 returns c =
@@ -93,7 +94,7 @@ returns c =
     record {
       denied = tt;
       allowed = λ held. denied_by who core own own_is other other_is c.args.who.active held None c.text_module.ensures.table own_is range
-          (ap (λ a. first_denied t c.args.who.active held (each_byte Read a 16)) (sym c.get-expected.ensures.word) ∙ c.in_default-check.ensures.allowed held);
+          (ap (λ a. first_in (right t c.args.who.active held) (each_byte Read a 16)) (sym c.get-expected.ensures.word) ∙ c.in_default-check.ensures.allowed held);
       done = answered _ _ _ _ c.id_if-id.result (6 + 64 * c.hmac_blocks.result) _ _ _
           (effect_whole who core own own_is other other_is mem c.stands_at.ensures.size c.in-Some.ensures.kept.text_ok c.in-Some-text_module.ensures.kept.text_ok range fits c.id_if-id.result id_is
           ∙ ap (answer core c.id_if-id.result) (sym cycles))

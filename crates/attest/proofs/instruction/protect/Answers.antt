@@ -5,7 +5,8 @@ use Rattle.sm_words.specs.Words.{cleared, put, reg}
 use Rattle.mod_layout.specs.declared.Section.{Section}
 use Rattle.mod_layout.specs.Table.{size_of, takes, with_module}
 use Rattle.mod_layout.specs.Tables.{IsTable}
-use Rattle.pc_access.specs.Rights.{first_denied}
+use Rattle.mod_layout.specs.First.{first_in}
+use Rattle.pc_access.specs.Rights.{right}
 use Rattle.pc_access.specs.declared.Kind.TheVariants.{Write}
 use Rattle.attest.specs.declared.UnitDone.{UnitDone}
 use Rattle.attest.specs.Units.{blocks, each_byte, new_ram, new_text}
@@ -24,7 +25,7 @@ returns-in-Err-clause-allowed c = λ key held.
     let t = c.args.table.now in let core = c.args.core.now in
     let refused : takes t (new_text core) (new_ram core) ≡ false =
     ap (λ x. takes t x (new_ram core)) (sym c.new_text-text.ensures) ∙ ap (takes t c.new_text-text.result) (sym c.new_ram-ram.ensures) ∙ ap is_none c.in-Err.ensures.refused in
-    ap (first_denied t c.args.who.active held) (plan_by (doer t c.args.who key) core false refused)
+    ap (first_in (right t c.args.who.active held)) (plan_by (doer t c.args.who key) core false refused)
 
 pub returns-in-Err-clause-done : goal.returns-in-Err-clause-done
 returns-in-Err-clause-done c = λ key.

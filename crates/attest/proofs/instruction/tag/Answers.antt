@@ -3,7 +3,8 @@ use Rattle.std.specs.Option.{option_or}
 use Rattle.sm_words.specs.Words.{reg}
 use Rattle.mod_layout.specs.Table.{Table}
 use Rattle.mod_keys.specs.Keys.{tag_of}
-use Rattle.pc_access.specs.Rights.{first_denied}
+use Rattle.mod_layout.specs.First.{first_in}
+use Rattle.pc_access.specs.Rights.{right}
 use Rattle.pc_access.specs.declared.Denied.{Denied}
 use Rattle.pc_access.specs.declared.Kind.TheVariants.{Read, Write}
 use Rattle.attest.specs.declared.UnitDone.{UnitDone}
@@ -23,9 +24,9 @@ ranges_are a b o x y z r s e f g h k =
     sym (e ∙ ap (λ n. in_range n y && in_range z (z + 16)) f ∙ ap (λ n. in_range a n && in_range z (z + 16)) g ∙ ap (λ n. in_range a b && in_range n (n + 16)) h) ∙ k
 
 -- the reads of the message, by the code's numbers
-message_read : (t : Table) (active : Option ℕ) (held : List ℕ) (a b x y : ℕ) (d : Option Denied) → x ≡ a → y ≡ b → first_denied t active held (each_byte Read x (y - x)) ≡ d →
-    first_denied t active held (each_byte Read a (b - a)) ≡ d
-message_read t active held a b x y d f g e = ap (λ n. first_denied t active held (each_byte Read n (b - n))) (sym f) ∙ ap (λ n. first_denied t active held (each_byte Read x (n - x))) (sym g) ∙ e
+message_read : (t : Table) (active : Option ℕ) (held : List ℕ) (a b x y : ℕ) (d : Option Denied) → x ≡ a → y ≡ b → first_in (right t active held) (each_byte Read x (y - x)) ≡ d →
+    first_in (right t active held) (each_byte Read a (b - a)) ≡ d
+message_read t active held a b x y d f g e = ap (λ n. first_in (right t active held) (each_byte Read n (b - n))) (sym f) ∙ ap (λ n. first_in (right t active held) (each_byte Read x (n - x))) (sym g) ∙ e
 
 pub returns-in_default : goal.returns-in_default
 returns-in_default c =
@@ -33,7 +34,7 @@ returns-in_default c =
     let none = sym c.own.ensures.own ∙ c.in_default.is in
     record {
       denied = tt;
-      allowed = λ held. ap (first_denied c.args.table.now c.args.who.active held) (plan_outside who c.args.core.now none);
+      allowed = λ held. ap (first_in (right c.args.table.now c.args.who.active held)) (plan_outside who c.args.core.now none);
       done = answered _ _ _ _ 0 6 _ _ _ (effect_outside who c.args.core.now _ none) c.answer.ensures.core c.answer.ensures.done refl refl;
       core_kept = tt;
       memory_kept = tt;
@@ -49,7 +50,7 @@ returns-then-not-has_ranges c =
     let ranges = ranges_are _ _ _ _ _ _ _ _ c.has_ranges.ensures c.get-start.ensures.word c.get-end.ensures.word c.get-output.ensures.word c.if-not-has_ranges.true in
     record {
       denied = tt;
-      allowed = λ held. ap (first_denied t c.args.who.active held) (plan_by who core c.in-Some.own own_is false ranges);
+      allowed = λ held. ap (first_in (right t c.args.who.active held)) (plan_by who core c.in-Some.own own_is false ranges);
       done = answered _ _ _ _ 0 6 _ _ _ (effect_by who core c.in-Some.own own_is _ false ranges) c.answer-then-not-has_ranges.ensures.core c.answer-then-not-has_ranges.ensures.done refl refl;
       core_kept = tt;
       memory_kept = tt;
@@ -65,7 +66,7 @@ returns-in-Err-clause-denied c = λ held.
     let ranges = ranges_are _ _ _ _ _ _ _ _ c.has_ranges.ensures c.get-start.ensures.word c.get-end.ensures.word c.get-output.ensures.word c.if-not-has_ranges.false in
     let bytes = message_read t c.args.who.active held (reg core 12) (reg core 13) _ _ _ c.get-start.ensures.word c.get-end.ensures.word (c.in-Err.ensures.denied held) in
     denied_by who core c.in-Some.own own_is c.args.who.active held c.in-Some.ensures.table own_is ranges
-    ∙ ap (λ d. option_or d (first_denied t c.args.who.active held (each_byte Write (reg core 14) 16))) bytes
+    ∙ ap (λ d. option_or d (first_in (right t c.args.who.active held) (each_byte Write (reg core 14) 16))) bytes
 
 pub returns-in-Err-check-clause-denied : goal.returns-in-Err-check-clause-denied
 returns-in-Err-check-clause-denied c = λ held.
@@ -75,10 +76,10 @@ returns-in-Err-check-clause-denied c = λ held.
     let own_is : who.own ≡ Some c.in-Some.own = sym c.own.ensures.own ∙ c.in-Some.is in
     let ranges = ranges_are _ _ _ _ _ _ _ _ c.has_ranges.ensures c.get-start.ensures.word c.get-end.ensures.word c.get-output.ensures.word c.if-not-has_ranges.false in
     let bytes = message_read t c.args.who.active held (reg core 12) (reg core 13) _ _ _ c.get-start.ensures.word c.get-end.ensures.word (c.in_default-check.ensures.allowed held) in
-    let output : first_denied t c.args.who.active held (each_byte Write (reg core 14) 16) ≡ Some c.in-Err-check.denied =
-    ap (λ a. first_denied t c.args.who.active held (each_byte Write a 16)) (sym c.get-output.ensures.word) ∙ c.in-Err-check.ensures.denied held in
+    let output : first_in (right t c.args.who.active held) (each_byte Write (reg core 14) 16) ≡ Some c.in-Err-check.denied =
+    ap (λ a. first_in (right t c.args.who.active held) (each_byte Write a 16)) (sym c.get-output.ensures.word) ∙ c.in-Err-check.ensures.denied held in
     denied_by who core c.in-Some.own own_is c.args.who.active held c.in-Some.ensures.table own_is ranges
-    ∙ ap (λ d. option_or d (first_denied t c.args.who.active held (each_byte Write (reg core 14) 16))) bytes ∙ output
+    ∙ ap (λ d. option_or d (first_in (right t c.args.who.active held) (each_byte Write (reg core 14) 16))) bytes ∙ output
 
 pub returns-clause-allowed : goal.returns-clause-allowed
 returns-clause-allowed c = λ held.
@@ -88,10 +89,10 @@ returns-clause-allowed c = λ held.
     let own_is : who.own ≡ Some c.in-Some.own = sym c.own.ensures.own ∙ c.in-Some.is in
     let ranges = ranges_are _ _ _ _ _ _ _ _ c.has_ranges.ensures c.get-start.ensures.word c.get-end.ensures.word c.get-output.ensures.word c.if-not-has_ranges.false in
     let bytes = message_read t c.args.who.active held (reg core 12) (reg core 13) _ _ _ c.get-start.ensures.word c.get-end.ensures.word (c.in_default-check.ensures.allowed held) in
-    let output : first_denied t c.args.who.active held (each_byte Write (reg core 14) 16) ≡ None =
-    ap (λ a. first_denied t c.args.who.active held (each_byte Write a 16)) (sym c.get-output.ensures.word) ∙ c.in_default-check-2.ensures.allowed held in
+    let output : first_in (right t c.args.who.active held) (each_byte Write (reg core 14) 16) ≡ None =
+    ap (λ a. first_in (right t c.args.who.active held) (each_byte Write a 16)) (sym c.get-output.ensures.word) ∙ c.in_default-check-2.ensures.allowed held in
     denied_by who core c.in-Some.own own_is c.args.who.active held c.in-Some.ensures.table own_is ranges
-    ∙ ap (λ d. option_or d (first_denied t c.args.who.active held (each_byte Write (reg core 14) 16))) bytes ∙ output
+    ∙ ap (λ d. option_or d (first_in (right t c.args.who.active held) (each_byte Write (reg core 14) 16))) bytes ∙ output
 
 pub returns-clause-done : goal.returns-clause-done
 returns-clause-done c =
