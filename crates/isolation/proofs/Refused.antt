@@ -10,7 +10,7 @@ use Rattle.insn_decode.proofs.Unread.{none_outside, outside_none}
 use Rattle.mod_layout.specs.Table.{Table, place_of}
 use Rattle.mod_layout.specs.declared.Place.{Place}
 use Rattle.mod_layout.specs.declared.Place.TheVariants.{Open, Entry}
-use Rattle.mod_layout.specs.First.{first_in}
+use Rattle.mod_layout.specs.First.{first_in, first_of}
 use Rattle.pc_access.specs.Rights.{right, refuse_if}
 use Rattle.pc_access.specs.declared.Access.{Access}
 use Rattle.pc_access.specs.declared.Denied.{Denied}
@@ -25,7 +25,7 @@ use Rattle.reg_backup.specs.declared.frames.Frame.TheVariants.{Module as Held}
 use Rattle.attest.specs.Units.{Doer, UnitName, Unprotect, unit_plan}
 use Rattle.cpu_step.specs.Asked.{asks}
 use Rattle.cpu_step.specs.Fetched.{insn_at, later_word}
-use Rattle.written_machine.specs.Checks.{active_at, entered, first_word, insn_at_pc, asked_to_return, asked_by, returns_inside, check_of, later_checks, insn_checks, first_refused, stop_at, stop_of, refused_in}
+use Rattle.written_machine.specs.Checks.{active_at, entered, first_word, insn_at_pc, asked_to_return, asked_by, returns_inside, check_of, later_checks, insn_checks, stop_at, stop_of, refused_in}
 use Rattle.written_machine.specs.Cycle.{Step, told, pc_of, byte_of, settle, ticked, due, arrive_inside, arrive_outside, push_both, pushes, who_of, perform, attempt, returned_by, reti_by, act_on, act_home, act_first, act, is_home, enter_at, enter, fetch, begin, turn, move, cycle, unless}
 use Rattle.written_machine.specs.State.{State}
 use Rattle.written_machine.proofs.Stops.{cycle_by}
@@ -38,7 +38,7 @@ abbrev Stops : Step → Option Denied → State → Type 0
 Stops t d s = t.state.stop ≡ stop_at d s
 
 -- the first refusal among accesses is the first of their checks
-first_of_map : (t : Table) (active : Option ℕ) (held : List ℕ) (xs : List Access) → first_refused (map (right t active held) xs) ≡ first_in (right t active held) xs
+first_of_map : (t : Table) (active : Option ℕ) (held : List ℕ) (xs : List Access) → first_of (map (right t active held) xs) ≡ first_in (right t active held) xs
 first_of_map t active held [] = refl
 first_of_map t active held (x ∷ xs) = ap (option_or (right t active held x)) (first_of_map t active held xs)
 
@@ -106,13 +106,13 @@ act_first_stops (Some first) s e h =
     act_home_stops (is_home s.table s.active (pc_of s) n) n s h (some_all (first_word s) (later_word (byte_of s) (pc_of s) n 1) (later_word (byte_of s) (pc_of s) n 2) first e)
 
 -- the same checks as a list
-later_is : (s : State) → first_refused (later_checks s) ≡ later_by (insn_of (first_word s) 0 0) s
+later_is : (s : State) → first_of (later_checks s) ≡ later_by (insn_of (first_word s) 0 0) s
 later_is s =
     let n = length_at (first_word s) in
     let accesses = asked_by (insn_at_pc s) s in
     ap (λ d. option_or (refuse_if (is_none (insn_of (first_word s) 0 0)) Illegal (pc_of s) 0) (option_or (refuse_if (not (is_home s.table s.active (pc_of s) n)) Straddle (pc_of s) 0) (option_or (refuse_if (returns_inside (insn_at_pc s) s.active) RetiInside (pc_of s) 0) d))) (first_of_map s.table s.active (held_ids s.frames) accesses)
 
-act_stops : (s : State) → s.stop ≡ None → Stops (act s) (first_refused (later_checks s)) s
+act_stops : (s : State) → s.stop ≡ None → Stops (act s) (first_of (later_checks s)) s
 unfolding act
 act_stops s h = act_first_stops (insn_of (first_word s) 0 0) s refl h ∙ ap (λ d. stop_at d s) (sym (later_is s))
 
@@ -172,19 +172,19 @@ stop_core None s t e = refl
 stop_core (Some d) s t e = ap (λ c. stop_at (Some d) (record s { core = c })) e
 
 -- ---- a turn
-begin_by_stops : (d : Option Denied) (left : ℕ) (s : State) → s.stop ≡ None → Stops (unless d s (let e = enter left s in told e.events (act e.state))) (option_or d (first_refused (later_checks (entered s)))) s
+begin_by_stops : (d : Option Denied) (left : ℕ) (s : State) → s.stop ≡ None → Stops (unless d s (let e = enter left s in told e.events (act e.state))) (option_or d (first_of (later_checks (entered s)))) s
 begin_by_stops (Some d) left s h = refl
 begin_by_stops None left s h =
     let e = (enter left s).state in
     let x = enter_checks left s in
     act_stops e (enter_ways s (λ t. t.state.stop ≡ s.stop) left refl (λ id p a. refl) ∙ h)
-    ∙ stop_core (first_refused (later_checks e)) e s x.1 ∙ ap (λ cs. stop_at (first_refused cs) s) x.0
+    ∙ stop_core (first_of (later_checks e)) e s x.1 ∙ ap (λ cs. stop_at (first_of cs) s) x.0
 
-begin_stops : (left : ℕ) (s : State) → s.stop ≡ None → Stops (begin left s) (first_refused (insn_checks s)) s
+begin_stops : (left : ℕ) (s : State) → s.stop ≡ None → Stops (begin left s) (first_of (insn_checks s)) s
 unfolding begin
 begin_stops left s h = begin_by_stops (right s.table s.active (held_ids s.frames) (fetch s)) left s h
 
-asleep_stops : (x : Bool) (left : ℕ) (s : State) → s.stop ≡ None → Stops (turn_unless x left s) (first_refused (checks_unless x s)) s
+asleep_stops : (x : Bool) (left : ℕ) (s : State) → s.stop ≡ None → Stops (turn_unless x left s) (first_of (checks_unless x s)) s
 asleep_stops true left s h = h
 asleep_stops false left s h = begin_stops left s h
 
@@ -192,12 +192,12 @@ push_stops : (d : Option Denied) (v : ℕ) (s : State) → s.stop ≡ None → S
 push_stops (Some d) v s h = refl
 push_stops None v s h = h
 
-outside_stops : (v : ℕ) (s : State) → s.stop ≡ None → Stops (arrive_outside v s) (first_refused (map (check_of None s) (pushes s))) s
+outside_stops : (v : ℕ) (s : State) → s.stop ≡ None → Stops (arrive_outside v s) (first_of (map (check_of None s) (pushes s))) s
 unfolding arrive_outside
 outside_stops v s h =
     push_stops (first_in (right s.table None (held_ids s.frames)) (pushes s)) v s h ∙ ap (λ d. stop_at d s) (sym (first_of_map s.table None (held_ids s.frames) (pushes s)))
 
-by_stops : (d a : Option ℕ) (p : Phase) (left : ℕ) (s : State) → s.stop ≡ None → Stops (turn_at d a p left s) (first_refused (checks_at d a p s)) s
+by_stops : (d a : Option ℕ) (p : Phase) (left : ℕ) (s : State) → s.stop ≡ None → Stops (turn_at d a p left s) (first_of (checks_at d a p s)) s
 unfolding arrive_inside
 by_stops d a (Pad n) left s h = h
 by_stops (Some v) (Some id) (Run r) left s h = h
@@ -209,7 +209,7 @@ by_stops _ _ (Run (suc r)) left s h = h
 
 turn_stops : (left : ℕ) (s : State) → s.stop ≡ None → (turn left s).state.stop ≡ stop_of s
 turn_stops left s h =
-    ap (λ t. t.state.stop) (turn_is left s) ∙ by_stops (due s) s.active s.phase left s h ∙ ap (λ cs. stop_at (first_refused cs) s) (sym (checks_are s))
+    ap (λ t. t.state.stop) (turn_is left s) ∙ by_stops (due s) s.active s.phase left s h ∙ ap (λ cs. stop_at (first_of cs) s) (sym (checks_are s))
 
 -- ---- a cycle
 

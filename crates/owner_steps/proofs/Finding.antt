@@ -7,7 +7,7 @@ use Rattle.insn_decode.specs.declared.insn.Insn.{Insn}
 use Rattle.insn_decode.specs.declared.insn.Insn.TheVariants.{Reti, Unit as UnitOp}
 use Rattle.insn_decode.proofs.Unread.{length_same, none_outside, outside_none}
 use Rattle.mod_layout.specs.Table.{Table}
-use Rattle.mod_layout.specs.First.{first_in}
+use Rattle.mod_layout.specs.First.{first_in, first_of}
 use Rattle.pc_access.specs.Rights.{refuse_if, right}
 use Rattle.pc_access.specs.declared.Access.{Access}
 use Rattle.pc_access.specs.declared.Denied.{Denied}
@@ -22,7 +22,7 @@ use Rattle.cpu_step.specs.Asked.{asks}
 use Rattle.cpu_step.specs.Fetched.{insn_at, later_word}
 use Rattle.cpu_step.specs.Plan.{past}
 use Rattle.cpu_step.specs.Through.{AreAligned}
-use Rattle.written_machine.specs.Checks.{asked_by, asked_to_return, check_of, checks, checks_by, entered, first_refused, first_word, insn_at_pc, later_checks, refused_in, returns_inside, stop_at}
+use Rattle.written_machine.specs.Checks.{asked_by, asked_to_return, check_of, checks, checks_by, entered, first_word, insn_at_pc, later_checks, refused_in, returns_inside, stop_at}
 use Rattle.written_machine.specs.Cycle.{Step, byte_of, case_of, cycle, fetch, is_home, pc_of}
 use Rattle.written_machine.specs.State.{State}
 use Rattle.isolation.specs.Laws.{StopRefused}
@@ -50,7 +50,7 @@ not_refused : (b : Bool) (rule : Rule) (a id : ℕ) → refuse_if (not b) rule a
 not_refused true rule a id e = refl
 not_refused false rule a id e = absurd cc
 
-first_of_map : (t : Table) (active : Option ℕ) (held : List ℕ) (xs : List Access) → first_refused (map (right t active held) xs) ≡ first_in (right t active held) xs
+first_of_map : (t : Table) (active : Option ℕ) (held : List ℕ) (xs : List Access) → first_of (map (right t active held) xs) ≡ first_in (right t active held) xs
 first_of_map t active held [] = refl
 first_of_map t active held (x ∷ xs) = ap (option_or (right t active held x)) (first_of_map t active held xs)
 
@@ -73,13 +73,13 @@ record Unrefused (s : State) : Type 0 where
   home : is_home s.table s.active (pc_of s) (length_at (first_word s)) ≡ true
   accesses : first_in (right s.table s.active (held_ids s.frames)) (asked_by (insn_at_pc s) s) ≡ None
 
-unrefused : (s : State) → first_refused (later_checks s) ≡ None → Unrefused s
+unrefused : (s : State) → first_of (later_checks s) ≡ None → Unrefused s
 unrefused s e =
     let home = is_home s.table s.active (pc_of s) (length_at (first_word s)) in
     let no_code = refuse_if (is_none (insn_of (first_word s) 0 0)) Illegal (pc_of s) 0 in
     let away = refuse_if (not home) Straddle (pc_of s) 0 in
     let inside = refuse_if (returns_inside (insn_at_pc s) s.active) RetiInside (pc_of s) 0 in
-    let accesses = first_refused (map (check_of s.active s) (asked_by (insn_at_pc s) s)) in
+    let accesses = first_of (map (check_of s.active s) (asked_by (insn_at_pc s) s)) in
     let second : option_or away (option_or inside accesses) ≡ None = rest_none no_code (option_or away (option_or inside accesses)) e in
     let third : option_or inside accesses ≡ None = rest_none away (option_or inside accesses) second in
     record {
@@ -121,8 +121,8 @@ pub one_there : (s : State) (insn : Insn) (f : Found) → is_begin (turn_kind (c
 one_there s insn f b e core_is past_is lines_are refused =
     let t = entered s in
     let turn : case_of s ≡ Begins = begins_is (case_of s) b in
-    let all : first_refused (checks_by Begins s) ≡ None = ap (λ (x : Turn). first_refused (checks_by x s)) (sym turn) ∙ refused in
-    let un : Unrefused t = unrefused t (rest_none (check_of s.active s (fetch s)) (first_refused (later_checks t)) all) in
+    let all : first_of (checks_by Begins s) ≡ None = ap (λ (x : Turn). first_of (checks_by x s)) (sym turn) ∙ refused in
+    let un : Unrefused t = unrefused t (rest_none (check_of s.active s (fetch s)) (first_of (later_checks t)) all) in
     let long : length_of insn ≡ length_at (first_word t) = length_same (word_at (byte_of s) (pc_of s)) (word_at (byte_of s) (add16 (pc_of s) 2)) (word_at (byte_of s) (add16 (pc_of s) 4)) insn e in
     let home : is_home t.table t.active (pc_of t) (length_of insn) ≡ true = ap (λ (n : ℕ). is_home t.table t.active (pc_of t) n) long ∙ un.home in
     let at : insn_at_pc t ≡ Some insn = ap (λ (n : ℕ). insn_at (byte_of t) (pc_of t) n) (sym long) ∙ home_whole t insn e home in
@@ -158,9 +158,9 @@ no_refusal : (o : Option Denied) (s : State) → stop_at o s ≡ None → o ≡ 
 no_refusal None s e = refl
 no_refusal (Some d) s e = absurd cc
 
-none_refused : (s : State) → refused_in s ≡ None → first_refused (checks (settled_state s)) ≡ None
+none_refused : (s : State) → refused_in s ≡ None → first_of (checks (settled_state s)) ≡ None
 unfolding refused_in
-none_refused s e = no_refusal (first_refused (checks (settled_state s))) (settled_state s) e
+none_refused s e = no_refusal (first_of (checks (settled_state s))) (settled_state s) e
 
 stop_none : (o : Option Stop) → is_some o ≡ false → o ≡ None
 stop_none None e = refl

@@ -1,10 +1,10 @@
 -- The checks of a cycle in their order, and the stop by the first that is refused.
 use Rattle.std.specs.Prelude.{ℕ, List, [], ◌∷◌, map, Bool, true, false, not, Option, Some, None, is_none}
-use Rattle.std.specs.Option.{option_or}
 use Rattle.sm_words.specs.Words.{word_at}
 use Rattle.insn_decode.specs.Code.{begun_by, length_at}
 use Rattle.insn_decode.specs.declared.insn.Insn.{Insn}
 use Rattle.insn_decode.specs.declared.insn.Insn.TheVariants.{Reti}
+use Rattle.mod_layout.specs.First.{first_of}
 use Rattle.mod_layout.specs.Table.{place_of}
 use Rattle.mod_layout.specs.declared.Place.{Place}
 use Rattle.mod_layout.specs.declared.Place.TheVariants.{Entry}
@@ -86,11 +86,6 @@ checks_by _ s = []
 abbrev pub checks : State → List (Option Denied)
 checks s = checks_by (case_of s) s
 
--- the first that is refused
-abbrev pub first_refused : List (Option Denied) → Option Denied
-first_refused [] = None
-first_refused (c ∷ cs) = option_or c (first_refused cs)
-
 -- the stop by a refusal, with the PC as it stands
 abbrev pub stop_at : Option Denied → State → Option Stop
 stop_at None s = None
@@ -98,7 +93,7 @@ stop_at (Some d) s = Some record { rule = d.rule; pc = pc_of s; addr = d.addr; �
 
 -- by the first refusal of a settled cycle
 abbrev pub stop_of : State → Option Stop
-stop_of s = stop_at (first_refused (checks s)) s
+stop_of s = stop_at (first_of (checks s)) s
 
 -- the stop of a cycle, if one of its checks is refused
 unfoldable pub refused_in : State → Option Stop
