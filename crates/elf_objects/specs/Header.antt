@@ -4,7 +4,7 @@ use Rattle.elf_objects.specs.declared.fault.ElfFault.{ElfFault}
 use Rattle.elf_objects.specs.declared.fault.ElfFault.TheVariants as fault
 use Rattle.elf_objects.specs.Bytes.{half_at, long_at}
 use Rattle.elf_objects.specs.Numbers.{file_header_size, relocatable, msp430, current_version, magic, class_32, low_byte_first, section_header_size}
-use Rattle.elf_objects.specs.Passes.{first_of}
+use Rattle.mod_layout.specs.First.{first_of}
 use Rattle.std.specs.Bool.{then_some}
 
 -- e_shoff: where the table of section headers starts

@@ -7,7 +7,7 @@ use Rattle.elf_objects.specs.declared.object.Symbol.{Symbol}
 use Rattle.elf_objects.specs.declared.object.Home.{Home}
 use Rattle.elf_objects.specs.declared.object.Home.TheVariants as home
 use Rattle.elf_objects.specs.declared.object.Relocation.{Relocation}
-use Rattle.elf_objects.specs.Passes.{first_of}
+use Rattle.mod_layout.specs.First.{first_of}
 use Rattle.std.specs.Option.{option_or}
 use Rattle.elf_objects.specs.Header.{section_count, header_fault, table_fault}
 use Rattle.elf_objects.specs.Section.{is_loaded, section_faults, link_faults, compressed_faults, rel_faults}

@@ -1,13 +1,8 @@
--- The order of refusals: some conditions one after another, some at each index.
+-- What is found or given at each index below a count, and the refusal that a check answers.
 use Rattle.std.specs.Prelude.{◌≡◌, ◌≢◌, ℕ, zero, suc, List, [], ◌∷◌, ◌++◌, Option, Some, None, Result, Ok, Err}
 use Rattle.elf_objects.specs.declared.fault.ElfFault.{ElfFault}
 use Rattle.elf_objects.specs.declared.fault.ElfFault.TheVariants as fault
 use Rattle.std.specs.Option.{option_or}
-
--- the first refusal of a list
-abbrev pub first_of : {F : Type 0} → List (Option F) → Option F
-first_of [] = None
-first_of (fault ∷ others) = option_or fault (first_of others)
 
 -- what the lowest index below a count gives that gives something
 unfoldable pub first_below : {A : Type 0} → (ℕ → Option A) → ℕ → Option A

@@ -2,7 +2,7 @@
 use Rattle.std.proofs.Common.{◌≡◌, List, [], ◌∷◌, Option, Some, None, refl}
 use Rattle.std.specs.Prelude.{Result, Ok, Err, OnOk, IfErr}
 use Rattle.elf_objects.specs.Object.{ObjectValue}
-use Rattle.elf_objects.specs.Passes.{first_of}
+use Rattle.mod_layout.specs.First.{first_of}
 use Rattle.layout_file.specs.Values.{LayoutValue}
 use Rattle.std.specs.Option.{option_or}
 use Rattle.link_symbols.specs.Names.{stands_for}

@@ -8,7 +8,7 @@ use Rattle.elf_objects.specs.declared.object.Symbol.{Symbol}
 use Rattle.std.specs.List.{list_any}
 use Rattle.std.specs.Option.{option_map_or}
 use Rattle.elf_objects.specs.declared.object.Relocation.{Relocation}
-use Rattle.elf_objects.specs.Passes.{first_of}
+use Rattle.mod_layout.specs.First.{first_of}
 use Rattle.link_symbols.specs.declared.fault.LinkFault.{LinkFault}
 use Rattle.link_symbols.specs.declared.item.Part.{Part}
 use Rattle.link_symbols.specs.declared.item.Item.{Item}
