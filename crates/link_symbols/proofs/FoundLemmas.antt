@@ -9,7 +9,7 @@ use Rattle.std.proofs.lemmas.List.{get_or-set_other}
 use Rattle.std.proofs.lemmas.Bool.Decides.{nat_tests}
 use Rattle.std.proofs.lemmas.Option.{slice_get_within, get_or_from_slice_get}
 use Rattle.elf_objects.specs.declared.object.Relocation.{Relocation}
-use Rattle.link_symbols.specs.Passes.{first_in}
+use Rattle.mod_layout.specs.First.{first_in}
 use Rattle.link_symbols.specs.Refusals.{is_used}
 
 -- what is found is the first of the rest

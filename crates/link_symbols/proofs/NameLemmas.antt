@@ -6,7 +6,8 @@ use Rattle.link_symbols.specs.declared.names.Definition.{Definition}
 use Rattle.link_symbols.specs.declared.symbol.Meaning.{Meaning}
 use Rattle.link_symbols.specs.declared.names.Names.{Names}
 use Rattle.link_symbols.specs.declared.fault.LinkFault.{LinkFault}
-use Rattle.link_symbols.specs.Passes.{some_if, first_in, IsLinkFaultOf}
+use Rattle.mod_layout.specs.First.{first_in}
+use Rattle.link_symbols.specs.Passes.{some_if, IsLinkFaultOf}
 use Rattle.std.specs.Option.{option_or}
 use Rattle.link_symbols.specs.Refusals.{duplicate, duplicate_of}
 use Rattle.link_symbols.specs.Symbols.{NamedValue}

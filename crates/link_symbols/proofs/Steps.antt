@@ -4,7 +4,8 @@ use Rattle.std.proofs.lemmas.List.{drop-map, map-append, take_more}
 use Rattle.std.proofs.Math.Seq.{drop-cons}
 use Rattle.std.proofs.Math.ListN.{drop_of_length-le}
 use Rattle.elf_objects.specs.Object.{ObjectValue}
-use Rattle.link_symbols.specs.Passes.{fold_at, first_in, first_at, map_at, NumberedObject, numbered_objects_from}
+use Rattle.mod_layout.specs.First.{first_in}
+use Rattle.link_symbols.specs.Passes.{fold_at, first_at, map_at, NumberedObject, numbered_objects_from}
 use Rattle.std.specs.Option.{option_or}
 
 pub or_else_assoc : {A : Type 0} (a b c : Option A) → option_or (option_or a b) c ≡ option_or a (option_or b c)

@@ -5,7 +5,8 @@ use Rattle.elf_objects.specs.declared.object.Binding.TheVariants as binding
 use Rattle.link_symbols.specs.declared.names.Definition.{Definition}
 use Rattle.link_symbols.specs.declared.symbol.Meaning.{Meaning}
 use Rattle.link_symbols.specs.declared.symbol.What.{What}
-use Rattle.link_symbols.specs.Passes.{some_if, first_in}
+use Rattle.mod_layout.specs.First.{first_in}
+use Rattle.link_symbols.specs.Passes.{some_if}
 use Rattle.link_symbols.specs.Symbols.{NamedValue}
 use Rattle.link_symbols.specs.declared.symbol.What.TheVariants as what
 

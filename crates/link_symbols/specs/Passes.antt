@@ -1,4 +1,4 @@
--- The first refusal of a list, passes that number the elements, and the objects with their numbers.
+-- Passes that number the elements, and the objects with their numbers.
 use Rattle.std.specs.Prelude.{ℕ, ◌≡◌, ◌≢◌, ◌+◌, List, [], ◌∷◌, length, slice_range, Bool, true, false, Option, Some, None}
 use Rattle.elf_objects.specs.declared.object.Span.{Span}
 use Rattle.elf_objects.specs.Object.{ObjectValue}
@@ -12,12 +12,7 @@ abbrev pub some_if : {A : Type 0} → Bool → Option A → Option A
 some_if true found = found
 some_if false found = None
 
--- what the first element gives that gives something
-abbrev pub first_in : {X A : Type 0} → (X → Option A) → List X → Option A
-first_in f [] = None
-first_in f (x ∷ xs) = option_or (f x) (first_in f xs)
-
--- the same where the elements are numbered from here on
+-- what the first element gives that gives something, the elements being numbered from here on
 abbrev pub first_at : {X A : Type 0} → (ℕ → X → Option A) → ℕ → List X → Option A
 first_at f i [] = None
 first_at f i (x ∷ xs) = option_or (f i x) (first_at f (i + 1) xs)

@@ -8,13 +8,13 @@ use Rattle.elf_objects.specs.declared.object.Symbol.{Symbol}
 use Rattle.std.specs.List.{list_any}
 use Rattle.std.specs.Option.{option_map_or}
 use Rattle.elf_objects.specs.declared.object.Relocation.{Relocation}
-use Rattle.mod_layout.specs.First.{first_of}
+use Rattle.mod_layout.specs.First.{first_in, first_of}
 use Rattle.link_symbols.specs.declared.fault.LinkFault.{LinkFault}
 use Rattle.link_symbols.specs.declared.item.Part.{Part}
 use Rattle.link_symbols.specs.declared.item.Item.{Item}
 use Rattle.link_symbols.specs.declared.names.Definition.{Definition}
 use Rattle.link_symbols.specs.declared.symbol.Meaning.{Meaning}
-use Rattle.link_symbols.specs.Passes.{first_in, first_at, NumberedObject, numbered_objects}
+use Rattle.link_symbols.specs.Passes.{first_at, NumberedObject, numbered_objects}
 use Rattle.std.specs.Bool.{then_some}
 use Rattle.std.specs.Option.{option_or}
 use Rattle.link_symbols.specs.Parts.{is_loaded_head, item_of}

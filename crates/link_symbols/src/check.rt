@@ -2,7 +2,8 @@
 
 ghost use Rattle.std.specs.Prelude.{◌≡◌, ◌≤◌, ◌<◌, ◌+◌, ◌*◌, ◌^◌, ℕ, List, length, map, IfOk, IfErr, OnOk, None, slice_index_or, true, false, All};
 ghost use Rattle.layout_file.specs.Views.{module_value, vector_of, string_values};
-ghost use Rattle.link_symbols.specs.Passes.{NumberedObject, numbered_objects, first_at, first_in, IsLinkFaultOf, FaultIs};
+ghost use Rattle.mod_layout.specs.First.{first_in};
+ghost use Rattle.link_symbols.specs.Passes.{NumberedObject, numbered_objects, first_at, IsLinkFaultOf, FaultIs};
 ghost use Rattle.link_symbols.specs.Passes.{numbered_object};
 ghost use Rattle.link_symbols.specs.internal.Values.{named_value};
 ghost use Rattle.link_symbols.specs.Symbols.{named_symbols_in, named_symbols};

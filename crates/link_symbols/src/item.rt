@@ -5,7 +5,8 @@ ghost use Rattle.layout_file.specs.Views.{module_value};
 ghost use Rattle.elf_objects.specs.Object.{ObjectValue, IsSectionHead};
 ghost use Rattle.link_symbols.specs.internal.Layouts.{AreShort};
 ghost use Rattle.link_symbols.specs.Parts.{code_part as code_part_of, data_part as data_part_of, is_named, part_in, part_of, item_of, items_in, section_items};
-ghost use Rattle.link_symbols.specs.Passes.{IsLinkFaultOf, first_at, first_in, NumberedObject};
+ghost use Rattle.mod_layout.specs.First.{first_in};
+ghost use Rattle.link_symbols.specs.Passes.{IsLinkFaultOf, first_at, NumberedObject};
 ghost use Rattle.link_symbols.specs.Passes.{numbered_object};
 ghost use Rattle.link_symbols.specs.Refusals.{no_place_at, no_place_in, no_place};
 

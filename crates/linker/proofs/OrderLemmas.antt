@@ -1,9 +1,9 @@
 -- The refusals in their order are those of names and those of placement.
 use Rattle.std.proofs.Common.{◌≡◌, List, [], ◌∷◌, Option, Some, None, refl}
 use Rattle.elf_objects.specs.Object.{ObjectValue}
-use Rattle.mod_layout.specs.First.{first_of}
+use Rattle.mod_layout.specs.First.{first_in, first_of}
 use Rattle.layout_file.specs.Values.{LayoutValue}
-use Rattle.link_symbols.specs.Passes.{numbered_objects, first_in}
+use Rattle.link_symbols.specs.Passes.{numbered_objects}
 use Rattle.std.specs.Option.{option_or}
 use Rattle.link_symbols.specs.Refusals.{unresolved}
 use Rattle.link_symbols.proofs.Steps.{or_else_none}

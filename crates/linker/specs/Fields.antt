@@ -7,7 +7,8 @@ use Rattle.elf_objects.specs.declared.object.Relocation.{Relocation}
 use Rattle.reloc_apply.specs.declared.RelocFault.{RelocFault}
 use Rattle.reloc_apply.specs.Fields.{relocated}
 use Rattle.link_symbols.specs.declared.fault.LinkFault.{LinkFault}
-use Rattle.link_symbols.specs.Passes.{first_in, NumberedObject}
+use Rattle.mod_layout.specs.First.{first_in}
+use Rattle.link_symbols.specs.Passes.{NumberedObject}
 use Rattle.linker.specs.Numbers.{Linking, numbers_in}
 use Rattle.linker.specs.Bytes.{bytes_put, memory_part}
 use Rattle.link_symbols.specs.declared.fault.LinkFault.TheVariants as fault

@@ -21,7 +21,8 @@ use Rattle.link_symbols.specs.declared.item.Part.{Part}
 use Rattle.link_symbols.specs.declared.symbol.Meaning.{Meaning}
 use Rattle.link_symbols.specs.declared.symbol.Meaning.TheVariants as meaning
 use Rattle.mod_layout.specs.declared.Section.{Section}
-use Rattle.link_symbols.specs.Passes.{NumberedObject, numbered_objects, first_in, part}
+use Rattle.mod_layout.specs.First.{first_in}
+use Rattle.link_symbols.specs.Passes.{NumberedObject, numbered_objects, part}
 use Rattle.std.specs.Bool.{then_some}
 use Rattle.link_symbols.specs.Parts.{is_loaded_head, code_part, part_of, item_of}
 use Rattle.link_symbols.specs.Symbols.{named_symbol, named_symbols}

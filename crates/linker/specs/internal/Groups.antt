@@ -3,7 +3,8 @@ use Rattle.std.specs.Prelude.{ℕ, List, Option}
 use Rattle.elf_objects.specs.Object.{ObjectValue}
 use Rattle.layout_file.specs.Values.{LayoutValue}
 use Rattle.link_symbols.specs.declared.fault.LinkFault.{LinkFault}
-use Rattle.link_symbols.specs.Passes.{first_in, numbered_objects}
+use Rattle.mod_layout.specs.First.{first_in}
+use Rattle.link_symbols.specs.Passes.{numbered_objects}
 use Rattle.std.specs.Option.{option_or}
 use Rattle.linker.specs.Numbers.{Linking}
 use Rattle.linker.specs.Fields.{reloc_fault_in}

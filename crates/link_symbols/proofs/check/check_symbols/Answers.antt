@@ -2,7 +2,8 @@ use Rattle.std.proofs.Common.{◌≡◌, ◌+◌, ℕ, List, Option, sym, ap, su
 use Rattle.std.specs.List.{flat_map}
 use Rattle.link_symbols.specs.declared.symbol.Meaning.{Meaning}
 use Rattle.link_symbols.specs.internal.Maps.{meaning_of_name, name_entry, AreFirsts}
-use Rattle.link_symbols.specs.Passes.{NumberedObject, numbered_objects, numbered_objects_from, first_in}
+use Rattle.mod_layout.specs.First.{first_in}
+use Rattle.link_symbols.specs.Passes.{NumberedObject, numbered_objects, numbered_objects_from}
 use Rattle.link_symbols.specs.Refusals.{undefined_in}
 use Rattle.link_symbols.specs.Symbols.{named_symbols_in}
 use Rattle.link_symbols.proofs.Steps.{first_numbered_more}

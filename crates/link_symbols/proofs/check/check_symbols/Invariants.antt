@@ -3,7 +3,8 @@ use Rattle.link_symbols.specs.internal.Maps.{meaning_of_name, name_entry, AreFir
 use Rattle.link_symbols.specs.internal.Meanings.{listed_meanings}
 use Rattle.link_symbols.specs.Resolved.{meanings_in}
 use Rattle.link_symbols.specs.internal.Meanings.{AllOwnMeanings}
-use Rattle.link_symbols.specs.Passes.{first_in, numbered_objects_from}
+use Rattle.mod_layout.specs.First.{first_in}
+use Rattle.link_symbols.specs.Passes.{numbered_objects_from}
 use Rattle.link_symbols.specs.Refusals.{undefined_in}
 use Rattle.link_symbols.specs.Symbols.{named_symbols_in}
 use Rattle.std.specs.List.{flat_map}

@@ -1,7 +1,7 @@
 use Rattle.std.proofs.Common.{◌≡◌, drop, map}
 use Rattle.link_symbols.specs.internal.Maps.{meaning_of_name}
 use Rattle.layout_file.specs.Views.{vector_of}
-use Rattle.link_symbols.specs.Passes.{first_in}
+use Rattle.mod_layout.specs.First.{first_in}
 use Rattle.link_symbols.specs.Refusals.{no_vector_at}
 use Rattle.link_symbols.proofs.check.check_vectors.Given as goal
 

@@ -1,7 +1,8 @@
 use Rattle.std.proofs.Common.{◌≡◌, ◌≤◌, ◌*◌, drop, take, map}
 use Rattle.std.specs.List.{flat_map}
 use Rattle.layout_file.specs.Views.{module_value}
-use Rattle.link_symbols.specs.Passes.{first_in, numbered_objects_from}
+use Rattle.mod_layout.specs.First.{first_in}
+use Rattle.link_symbols.specs.Passes.{numbered_objects_from}
 use Rattle.link_symbols.specs.Parts.{items_in}
 use Rattle.link_symbols.specs.Refusals.{no_place_in}
 use Rattle.link_symbols.proofs.item.sections_of.Given as goal

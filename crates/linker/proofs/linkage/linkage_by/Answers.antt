@@ -7,7 +7,8 @@ use Rattle.layout_file.specs.Layout.{layout_of}
 use Rattle.layout_file.specs.Views.{module_value}
 use Rattle.link_symbols.specs.declared.fault.LinkFault.{LinkFault}
 use Rattle.link_symbols.specs.declared.item.Item.{Item}
-use Rattle.link_symbols.specs.Passes.{first_in, numbered_objects}
+use Rattle.mod_layout.specs.First.{first_in}
+use Rattle.link_symbols.specs.Passes.{numbered_objects}
 use Rattle.linker.specs.Placement.{starts_of, filled_end}
 use Rattle.linker.specs.Refusals.{overfull}
 use Rattle.linker.specs.internal.Groups.{fill_fault}
