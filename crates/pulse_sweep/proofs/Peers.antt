@@ -9,7 +9,8 @@ use Rattle.tracer.specs.declared.Event.{Event}
 use Rattle.written_machine.specs.Cycle.{cycle}
 use Rattle.written_machine.specs.Peers.{Peers}
 use Rattle.written_machine.specs.View.{View, at, boot, view_of}
-use Rattle.pulse_sweep.specs.Columns.{begins, leaves, sends, first_given, first_after}
+use Rattle.mod_layout.specs.First.{first_in}
+use Rattle.pulse_sweep.specs.Columns.{begins, leaves, sends, first_after}
 use Rattle.pulse_sweep.specs.Rows.{columns_text}
 use Rattle.pulse_sweep.specs.Sweep.{columns_at, different, is_same_at, lone_pulse, pulse_cycles, row_at, trace_at}
 use Rattle.pulse_sweep.proofs.Counts.{none_counted}
@@ -20,7 +21,7 @@ unfolding view_of
 same_cycle views a b m schedule k peers = ap (λ (v : View). v.cycle) (views a b m schedule k peers)
 
 -- the same number of a cycle by its number and its events
-now_same : (f : ℕ → Event → Option ℕ) (c i j : ℕ) (es fs : List Event) → i ≡ j → es ≡ fs → cond (nat_le c i) (first_given (f i) es) None ≡ cond (nat_le c j) (first_given (f j) fs) None
+now_same : (f : ℕ → Event → Option ℕ) (c i j : ℕ) (es fs : List Event) → i ≡ j → es ≡ fs → cond (nat_le c i) (first_in (f i) es) None ≡ cond (nat_le c j) (first_in (f j) fs) None
 now_same f c i j es fs e h = rw (e, h) refl
 
 first_same : SameViews → SameEvents → (a b : Image) (m : ℕ) (schedule : List Entry) (f : ℕ → Event → Option ℕ) (c n : ℕ) → Peers a b m

@@ -1,6 +1,7 @@
 -- What a run says of a pulse in cycle c: when the handler begins, and when next a module is left and a byte is sent.
-use Rattle.std.specs.Prelude.{ℕ, zero, suc, ◌+◌, ◌-◌, List, [], ◌∷◌, nat_le, if◌then◌else◌, Option, Some, None}
+use Rattle.std.specs.Prelude.{ℕ, zero, suc, ◌+◌, ◌-◌, nat_le, if◌then◌else◌, Option, Some, None}
 use Rattle.std.specs.Option.{option_or}
+use Rattle.mod_layout.specs.First.{first_in}
 use Rattle.irq_padding.specs.declared.TheConstants.{PADDING, ARRIVAL}
 use Rattle.tracer.specs.declared.Event.{Event}
 use Rattle.tracer.specs.declared.Event.TheVariants.{Leave, Hide, Irq, Out}
@@ -24,14 +25,9 @@ abbrev pub sends : ℕ → Event → Option ℕ
 sends k (Out byte) = Some k
 sends k _ = None
 
--- the first number that some events give
-abbrev pub first_given : (Event → Option ℕ) → List Event → Option ℕ
-first_given f [] = None
-first_given f (e ∷ es) = option_or (f e) (first_given f es)
-
--- that the next cycle's events give, from cycle c on
+-- the first number that the next cycle's events give, from cycle c on
 abbrev pub first_now : (ℕ → Event → Option ℕ) → ℕ → State → Option ℕ
-first_now f c s = if nat_le c s.cycle then first_given (f s.cycle) (cycle s).events else None
+first_now f c s = if nat_le c s.cycle then first_in (f s.cycle) (cycle s).events else None
 
 -- that those of the next n cycles give
 abbrev pub first_after : (ℕ → Event → Option ℕ) → ℕ → State → ℕ → Option ℕ

@@ -5,7 +5,8 @@ use Rattle.std.specs.Option.{option_or}
 use Rattle.std.specs.Str.{bytes_eq}
 use Rattle.texts.specs.Lines.{lines_of}
 use Rattle.tracer.specs.declared.Event.{Event}
-use Rattle.pulse_sweep.specs.Columns.{begins, leaves, sends, first_given}
+use Rattle.mod_layout.specs.First.{first_in}
+use Rattle.pulse_sweep.specs.Columns.{begins, leaves, sends}
 use Rattle.pulse_sweep.specs.declared.columns.Columns.{Columns}
 
 -- these numbers, and where one is not there the other's
@@ -18,14 +19,14 @@ event_columns c k e = record { begins = begins c k e; leaves = leaves k e; sends
 
 -- of some events of cycle k
 abbrev pub first_columns : ℕ → ℕ → List Event → Columns
-first_columns c k es = record { begins = first_given (begins c k) es; leaves = first_given (leaves k) es; sends = first_given (sends k) es }
+first_columns c k es = record { begins = first_in (begins c k) es; leaves = first_in (leaves k) es; sends = first_in (sends k) es }
 
 -- of those of cycle k, where it is c or a later one
 abbrev pub columns_of : ℕ → ℕ → List Event → Columns
 columns_of c k es = record {
-  begins = if nat_le c k then first_given (begins c k) es else None;
-  leaves = if nat_le c k then first_given (leaves k) es else None;
-  sends = if nat_le c k then first_given (sends k) es else None;
+  begins = if nat_le c k then first_in (begins c k) es else None;
+  leaves = if nat_le c k then first_in (leaves k) es else None;
+  sends = if nat_le c k then first_in (sends k) es else None;
 }
 
 -- how many lines two texts have in common at their beginning
