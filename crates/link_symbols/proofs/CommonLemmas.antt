@@ -14,7 +14,7 @@ use Rattle.link_symbols.specs.internal.Values.{joined_item}
 use Rattle.link_symbols.specs.internal.Maps.{HoldsCommons, name_entry, Notes}
 use Rattle.link_symbols.specs.declared.names.Definition.{Definition}
 use Rattle.link_symbols.specs.Symbols.{NamedValue}
-use Rattle.link_symbols.proofs.Steps.{or_else_none, or_else_assoc}
+use Rattle.mod_layout.proofs.FirstLemmas.{or_else_none, or_else_assoc}
 
 joined_same : (d : Common) (ds : List Common) (c : Common) → bytes_eq d.name c.name ≡ true →
     commons_with (d ∷ ds) c ≡ record { name = d.name; size = max d.size c.size; align = max d.align c.align } ∷ ds

@@ -13,7 +13,7 @@ use Rattle.link_symbols.specs.Refusals.{duplicate, duplicate_of}
 use Rattle.link_symbols.specs.Symbols.{NamedValue}
 use Rattle.link_symbols.specs.Definitions.{definition, definition_of, strong_by, weak_by, strong_of, weak_of, if_named, is_global}
 use Rattle.link_symbols.specs.internal.Maps.{name_entry, HoldsNames, IsFirst, AreFirsts}
-use Rattle.link_symbols.proofs.Steps.{or_else_none, or_else_assoc}
+use Rattle.mod_layout.proofs.FirstLemmas.{or_else_none, or_else_assoc, first_in_append}
 
 -- a name that is not there is noted
 pub note_new : {A : Type 0} (old : List ℕ → Option A) (name q : List ℕ) (a : A) (b : Bool) → bytes_eq name q ≡ b → old name ≡ None →
@@ -27,10 +27,6 @@ note_new old name q a false e none = sym (or_else_none (old q))
 kept_none : {A : Type 0} (b : Bool) → some_if {A = A} b None ≡ None
 kept_none true = refl
 kept_none false = refl
-
-pub first_in_append : {X A : Type 0} (f : X → Option A) (xs ys : List X) → first_in f (xs ++ ys) ≡ option_or (first_in f xs) (first_in f ys)
-first_in_append f [] ys = refl
-first_in_append f (x ∷ xs) ys = ap (option_or (f x)) (first_in_append f xs ys) ∙ sym (or_else_assoc (f x) (first_in f xs) (first_in f ys))
 
 pub strong_more : (before : List NamedValue) (s : NamedValue) (q : List ℕ) → strong_of (before ++ s ∷ []) q ≡ option_or (strong_of before q) (some_if (bytes_eq s.name q) (strong_by s))
 unfolding strong_of

@@ -10,15 +10,11 @@ use Rattle.link_symbols.specs.Resolved.{items_of}
 use Rattle.link_symbols.specs.Symbols.{named_symbols}
 use Rattle.link_symbols.specs.Refusals.{no_place, duplicate, undefined, no_vector, no_entry, elsewhere, unresolved}
 use Rattle.link_symbols.specs.internal.Groups.{names_fault, stand_fault}
-use Rattle.link_symbols.proofs.Steps.{or_else_none}
+use Rattle.mod_layout.proofs.FirstLemmas.{or_else_none}
 
 -- functions that agree are one
 pub ext : {A B : Type 0} (f g : A → B) → ((x : A) → f x ≡ g x) → f ≡ g
 ext f g h = λ i. λ x. h x i
-
-pub both_none : {A : Type 0} (a b : Option A) → option_or a b ≡ None → (a ≡ None) × (b ≡ None)
-both_none None b e = (refl, e)
-both_none (Some x) b e = cc
 
 pub skip : {A : Type 0} (a b r : Option A) → a ≡ None → b ≡ r → option_or a b ≡ r
 skip None b r e f = f

@@ -17,9 +17,9 @@ use Rattle.link_symbols.specs.Names.{stands_by, stands_for, count_sections}
 use Rattle.link_symbols.specs.internal.Meanings.{OwnMeaning, OwnMeanings, AllOwnMeanings}
 use Rattle.link_symbols.specs.internal.Maps.{meaning_of_name}
 use Rattle.link_symbols.proofs.Steps.{numbered_step}
-use Rattle.link_symbols.proofs.OrderLemmas.{both_none}
+use Rattle.mod_layout.proofs.FirstLemmas.{both_none, first_in_append}
 use Rattle.link_symbols.proofs.OrderLemmas.{ext}
-use Rattle.link_symbols.proofs.NameLemmas.{duplicate_append, first_in_append, strong_some}
+use Rattle.link_symbols.proofs.NameLemmas.{duplicate_append, strong_some}
 
 -- ---- one symbol
 

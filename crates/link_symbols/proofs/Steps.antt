@@ -6,15 +6,6 @@ use Rattle.std.proofs.Math.ListN.{drop_of_length-le}
 use Rattle.elf_objects.specs.Object.{ObjectValue}
 use Rattle.mod_layout.specs.First.{first_in}
 use Rattle.link_symbols.specs.Passes.{fold_at, first_at, map_at, NumberedObject, numbered_objects_from}
-use Rattle.std.specs.Option.{option_or}
-
-pub or_else_assoc : {A : Type 0} (a b c : Option A) → option_or (option_or a b) c ≡ option_or a (option_or b c)
-or_else_assoc (Some x) b c = refl
-or_else_assoc None b c = refl
-
-pub or_else_none : {A : Type 0} (a : Option A) → option_or a None ≡ a
-or_else_none (Some x) = refl
-or_else_none None = refl
 
 -- a pass that found nothing so far
 pub first_at_step : {X A : Type 0} (f : ℕ → X → Option A) (xs : List X) (i : ℕ) (x : X) → i < length xs → x ≡ get_or xs i x → f i x ≡ None →

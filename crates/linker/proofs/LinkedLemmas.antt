@@ -13,7 +13,7 @@ use Rattle.link_symbols.specs.Resolved.{items_of}
 use Rattle.linker.specs.Refusals.{link_fault_of, overfull}
 use Rattle.link_symbols.specs.Refusals.{no_place, unresolved}
 use Rattle.linker.specs.internal.Groups.{fill_fault}
-use Rattle.link_symbols.proofs.OrderLemmas.{both_none}
+use Rattle.mod_layout.proofs.FirstLemmas.{both_none}
 use Rattle.linker.proofs.ByteLemmas.{each_byte, memory_bytes}
 use Rattle.linker.proofs.ClearLemmas.{memory_clear}
 use Rattle.linker.proofs.FitLemmas.{items_fit, all_fit, starts_high, stubs_fit}

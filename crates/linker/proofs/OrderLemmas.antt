@@ -6,7 +6,7 @@ use Rattle.layout_file.specs.Values.{LayoutValue}
 use Rattle.link_symbols.specs.Passes.{numbered_objects}
 use Rattle.std.specs.Option.{option_or}
 use Rattle.link_symbols.specs.Refusals.{unresolved}
-use Rattle.link_symbols.proofs.Steps.{or_else_none}
+use Rattle.mod_layout.proofs.FirstLemmas.{or_else_none}
 use Rattle.linker.specs.Numbers.{linking_of, region_end}
 use Rattle.linker.specs.Fields.{reloc_fault_in}
 use Rattle.linker.specs.Refusals.{overfull, link_fault_of}

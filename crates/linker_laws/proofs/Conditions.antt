@@ -33,7 +33,7 @@ use Rattle.linker.specs.Numbers.{Linking, linking_of, numbers_in, region_end}
 use Rattle.linker.specs.Fields.{target_address, target_size, symbol_sum, reloc_fault, reloc_fault_by, reloc_fault_in}
 use Rattle.link_symbols.specs.Refusals.{no_place, no_place_at, no_place_in, is_used, undefined, undefined_at, undefined_in, no_vector, no_vector_at, no_entry, no_entry_at, no_entry_in, is_code_of, is_module_entry, is_entry_in, elsewhere, elsewhere_at, elsewhere_in, unresolved}
 use Rattle.linker.specs.Refusals.{overfull, overfull_at, overfull_in, link_fault_of}
-use Rattle.link_symbols.proofs.OrderLemmas.{both_none}
+use Rattle.mod_layout.proofs.FirstLemmas.{both_none}
 use Rattle.linker.proofs.BoundLemmas.{not_over}
 use Rattle.linker_laws.specs.Conditions.{SectionsPlaced, UsedStand, VectorsStand, IsEntryPlace, EntriesStand, ContentsFit, RelocationsApply, CanLink, LinksExactly}
 use Rattle.linker_laws.proofs.Searches.{or_none, in_none, none_in, at_none, none_at, refused_not, not_refused, some_is, is_some_by, got, gets}

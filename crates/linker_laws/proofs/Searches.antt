@@ -5,7 +5,7 @@ use Rattle.mod_layout.specs.First.{first_in}
 use Rattle.link_symbols.specs.Passes.{first_at}
 use Rattle.std.specs.Option.{option_or}
 use Rattle.std.specs.Bool.{then_some}
-use Rattle.link_symbols.proofs.OrderLemmas.{both_none}
+use Rattle.mod_layout.proofs.FirstLemmas.{both_none}
 
 pub or_none : {A : Type 0} (a b : Option A) → a ≡ None → b ≡ None → option_or a b ≡ None
 or_none None b e f = f

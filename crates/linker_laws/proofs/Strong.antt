@@ -16,7 +16,7 @@ use Rattle.link_symbols.specs.Passes.{some_if}
 use Rattle.link_symbols.specs.Symbols.{NamedValue}
 use Rattle.link_symbols.specs.Definitions.{is_global, is_local, meaning_in, definition, definition_of, strong_by, strong_of, if_named}
 use Rattle.link_symbols.specs.Refusals.{duplicate, duplicate_by, duplicate_of}
-use Rattle.link_symbols.proofs.OrderLemmas.{both_none}
+use Rattle.mod_layout.proofs.FirstLemmas.{both_none}
 use Rattle.linker_laws.specs.Conditions.{IsStrong, OneStrongEach}
 use Rattle.linker_laws.proofs.Searches.{or_none, in_none, none_in}
 

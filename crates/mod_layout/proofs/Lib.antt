@@ -1,2 +1,3 @@
 pub mod TableLemmas
+pub mod FirstLemmas
 pub mod Found
