@@ -17,7 +17,7 @@ use Rattle.attest.specs.Units.{Attest, Doer, Effect, answer, attest_answer, atte
 use Rattle.attest.specs.Accesses.{bytes_read}
 use Rattle.attest.specs.internal.Accesses.{text_in}
 use Rattle.attest.specs.Done.{effect_in, own_of}
-use Rattle.attest.proofs.Checks.{denied-append, or_none}
+use Rattle.mod_layout.proofs.FirstLemmas.{first_in_append, or_else_none}
 use Rattle.attest.proofs.Places.{own_text_allowed, other_text_allowed}
 use Rattle.attest.proofs.Rows.{text_values, bytes_read-reads}
 use Rattle.attest.proofs.Slices.{length-slice_range}
@@ -72,8 +72,8 @@ module _ (who : Doer) (core : List ℕ) where
           let others : first_in (right t active held) (text_reads other) ≡ None =
           other_text_allowed t active (place_of t (reg core 12)) held other ok other_is in
           let tag = each_byte Read at 16 in
-          rw (plan_by true e, denied-append t active held (tag ++ text_reads other) (text_reads own), denied-append t active held tag (text_reads other), mine, others, bytes)
-          (or_none (option_or d None) ∙ or_none d)
+          rw (plan_by true e, first_in_append (right t active held) (tag ++ text_reads other) (text_reads own), first_in_append (right t active held) tag (text_reads other), mine, others, bytes)
+          (or_else_none (option_or d None) ∙ or_else_none d)
 
       module _ (mem : List ℕ) (size : length mem ≡ 65536) (own_ok : IsSection own.text) (other_ok : IsSection other.text) (e : in_range at (at + 16) ≡ true) (fits : at + 16 ≤ 65536) where
         values_are : bytes_read mem accesses ≡ slice_range mem at (at + 16) ++ (text_in mem other ++ text_in mem own)

@@ -1,13 +1,11 @@
 -- On accesses checked one by one.
-use Rattle.std.proofs.Common.{◌≡◌, ◌≢◌, ℕ, suc, ◌+◌, List, [], ◌∷◌, ◌++◌, Option, Some, None, refl}
-use Rattle.std.specs.Option.{option_or}
+use Rattle.std.proofs.Common.{◌≡◌, ◌≢◌, ℕ, suc, ◌+◌, List, [], Option, Some, None, refl}
 use Rattle.sm_words.specs.declared.width.Width.TheVariants.{Byte}
 use Rattle.mod_layout.specs.declared.Place.{Place}
 use Rattle.mod_layout.specs.declared.Place.TheVariants.{Open}
 use Rattle.mod_layout.specs.Table.{Table, place_of}
 use Rattle.pc_access.specs.declared.Kind.{Kind}
 use Rattle.pc_access.specs.declared.Kind.TheVariants.{Fetch, Read, Write}
-use Rattle.pc_access.specs.declared.Access.{Access}
 use Rattle.pc_access.specs.declared.Denied.{Denied}
 use Rattle.mod_layout.specs.First.{first_in}
 use Rattle.pc_access.specs.Rights.{right, right_at, access_of}
@@ -42,17 +40,3 @@ pub denied-now : (t : Table) (active : Option ℕ) (held : List ℕ) (kind : Kin
     first_in (right t active held) (each_byte kind a n) ≡ Some d
 denied-now t active held kind a n m d plain e refused =
     rw (e, right-held t active held [] kind a plain, refused) refl
-
-option_or-later : (d x y z : Option Denied) → z ≡ option_or x y → option_or d z ≡ option_or (option_or d x) y
-option_or-later None x y z e = e
-option_or-later (Some d) x y z e = refl
-
--- of two lists the first decides, if it does
-pub denied-append : (t : Table) (active : Option ℕ) (held : List ℕ) (xs ys : List Access) →
-    first_in (right t active held) (xs ++ ys) ≡ option_or (first_in (right t active held) xs) (first_in (right t active held) ys)
-denied-append t active held [] ys = refl
-denied-append t active held (x ∷ xs) ys = option_or-later (right t active held x) (first_in (right t active held) xs) (first_in (right t active held) ys) (first_in (right t active held) (xs ++ ys)) (denied-append t active held xs ys)
-
-pub or_none : (d : Option Denied) → option_or d None ≡ d
-or_none None = refl
-or_none (Some d) = refl

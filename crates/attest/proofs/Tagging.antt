@@ -16,7 +16,7 @@ use Rattle.attest.specs.Units.{Tag, Doer, Effect, answer, blocks, each_byte, in_
 use Rattle.attest.specs.Accesses.{memory_after, bytes_read, writes_of}
 use Rattle.attest.specs.internal.Accesses.{text_in}
 use Rattle.attest.specs.Done.{IsDone, effect_in, own_of}
-use Rattle.attest.proofs.Checks.{denied-append, or_none}
+use Rattle.mod_layout.proofs.FirstLemmas.{first_in_append, or_else_none}
 use Rattle.attest.proofs.Cores.{with_old_pc-answer}
 use Rattle.attest.proofs.Finished.{done_by}
 use Rattle.attest.proofs.Places.{own_text_allowed}
@@ -69,10 +69,10 @@ module _ (who : Doer) (core : List ℕ) where
         let bytes = each_byte Read from (to - from) in
         let tag = each_byte Write out 16 in
         ap (first_in (right t active held)) (plan_by true e)
-        ∙ denied-append t active held (bytes ++ tag) (text_reads own)
+        ∙ first_in_append (right t active held) (bytes ++ tag) (text_reads own)
         ∙ ap (option_or (first_in (right t active held) (bytes ++ tag))) (own_text_allowed t active active held own ok found)
-        ∙ or_none (first_in (right t active held) (bytes ++ tag))
-        ∙ denied-append t active held bytes tag
+        ∙ or_else_none (first_in (right t active held) (bytes ++ tag))
+        ∙ first_in_append (right t active held) bytes tag
 
     module _ (mem : List ℕ) (size : length mem ≡ 65536) (own_ok : IsSection own.text) (e : in_ranges ≡ true) (order : from ≤ to) (fits : to ≤ 65536) where
       values_are : bytes_read mem accesses ≡ slice_range mem from to ++ text_in mem own

@@ -1,5 +1,5 @@
 -- A cycle is stopped by the first of its checks that is refused, and by nothing else.
-use Rattle.std.proofs.Common.{◌≡◌, ℕ, zero, suc, List, [], ◌∷◌, map, refl, sym, ap, ◌∙◌, Bool, true, false, not, Option, Some, None, is_none}
+use Rattle.std.proofs.Common.{◌≡◌, ℕ, zero, suc, List, ◌∷◌, map, refl, sym, ap, ◌∙◌, Bool, true, false, not, Option, Some, None, is_none}
 use Rattle.std.specs.Option.{option_or}
 use Rattle.isolation.proofs.Tame.{ticked_stop}
 use Rattle.isolation.proofs.Ways.{counted_holds, enter_ways}
@@ -7,10 +7,11 @@ use Rattle.insn_decode.specs.Code.{insn_of, length_of, length_or_one, length_at}
 use Rattle.insn_decode.specs.declared.insn.Insn.{Insn}
 use Rattle.insn_decode.specs.declared.insn.Insn.TheVariants.{Reti, Unit as UnitOp}
 use Rattle.insn_decode.proofs.Unread.{none_outside, outside_none}
-use Rattle.mod_layout.specs.Table.{Table, place_of}
+use Rattle.mod_layout.specs.Table.{place_of}
 use Rattle.mod_layout.specs.declared.Place.{Place}
 use Rattle.mod_layout.specs.declared.Place.TheVariants.{Open, Entry}
 use Rattle.mod_layout.specs.First.{first_in, first_of}
+use Rattle.mod_layout.proofs.FirstLemmas.{first_of_map}
 use Rattle.pc_access.specs.Rights.{right, refuse_if}
 use Rattle.pc_access.specs.declared.Access.{Access}
 use Rattle.pc_access.specs.declared.Denied.{Denied}
@@ -36,11 +37,6 @@ use Rattle.isolation.proofs.Cases.{turn_at, turn_unless, turn_is, checks_at, che
 -- the step leaves the machine stopped by this refusal in this state, and running where there is none
 abbrev Stops : Step → Option Denied → State → Type 0
 Stops t d s = t.state.stop ≡ stop_at d s
-
--- the first refusal among accesses is the first of their checks
-first_of_map : (t : Table) (active : Option ℕ) (held : List ℕ) (xs : List Access) → first_of (map (right t active held) xs) ≡ first_in (right t active held) xs
-first_of_map t active held [] = refl
-first_of_map t active held (x ∷ xs) = ap (option_or (right t active held x)) (first_of_map t active held xs)
 
 -- ---- an instruction
 
@@ -195,7 +191,7 @@ push_stops None v s h = h
 outside_stops : (v : ℕ) (s : State) → s.stop ≡ None → Stops (arrive_outside v s) (first_of (map (check_of None s) (pushes s))) s
 unfolding arrive_outside
 outside_stops v s h =
-    push_stops (first_in (right s.table None (held_ids s.frames)) (pushes s)) v s h ∙ ap (λ d. stop_at d s) (sym (first_of_map s.table None (held_ids s.frames) (pushes s)))
+    push_stops (first_in (right s.table None (held_ids s.frames)) (pushes s)) v s h ∙ ap (λ d. stop_at d s) (sym (first_of_map (right s.table None (held_ids s.frames)) (pushes s)))
 
 by_stops : (d a : Option ℕ) (p : Phase) (left : ℕ) (s : State) → s.stop ≡ None → Stops (turn_at d a p left s) (first_of (checks_at d a p s)) s
 unfolding arrive_inside

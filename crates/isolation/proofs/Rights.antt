@@ -2,7 +2,6 @@
 use Rattle.std.proofs.Common.{◌≡◌, ◌≢◌, ◌⊎◌, ℕ, ◌+◌, ◌%◌, ◌≤◌, List, [], ◌∷◌, refl, ap, subst, arith, Bool, true, false, cond, not, ◌==◌, Option, Some, None, ⊎_elim}
 use Rattle.std.proofs.lemmas.Bool.{cases_lt}
 use Rattle.std.proofs.lemmas.Bool.Decides.{nat_tests}
-use Rattle.std.specs.Option.{option_or}
 use Rattle.pc_access.proofs.RightLemmas.{aligned_both, refused_not}
 use Rattle.sm_words.specs.declared.width.Width.{Width}
 use Rattle.sm_words.specs.declared.width.Width.TheVariants.{Byte, Word}
@@ -11,9 +10,9 @@ use Rattle.mod_layout.specs.Tables.{IsModule, IsTable}
 use Rattle.mod_layout.specs.declared.Module.{Module}
 use Rattle.mod_layout.specs.declared.Place.TheVariants.{Entry, Text, Data}
 use Rattle.mod_layout.specs.First.{first_in}
+use Rattle.mod_layout.proofs.FirstLemmas.{both_none}
 use Rattle.pc_access.specs.Rights.{right, right_at, misaligned, is_id}
 use Rattle.pc_access.specs.declared.Access.{Access}
-use Rattle.pc_access.specs.declared.Denied.{Denied}
 use Rattle.pc_access.specs.declared.Kind.{Kind}
 use Rattle.pc_access.specs.declared.Kind.TheVariants.{Read, Write}
 use Rattle.pc_access.specs.declared.Rule.TheVariants.{ReadData, WriteData}
@@ -35,15 +34,11 @@ pub record Sound (m : ℕ) (own : Module) (t : Table) : Type 0 where
   pub apart : (a : ℕ) → holds own.text a ≡ true → holds own.ram a ≡ false
   pub others : (id : ℕ) (x : Module) → module_of id t ≡ Some x → (id == m) ≡ false → Apart x.ram own.ram × Apart x.ram own.text
 
-none_or : (p q : Option Denied) → option_or p q ≡ None → (p ≡ None) × (q ≡ None)
-none_or None q e = (refl, e)
-none_or (Some d) q e = absurd cc
-
 allowed_each : (t : Table) (active : Option ℕ) (held : List ℕ) (xs : List Access) →
     first_in (right t active held) xs ≡ None → Each (λ x. right t active held x ≡ None) xs
 allowed_each t active held [] e = tt
 allowed_each t active held (x ∷ xs) e =
-    let p = none_or (right t active held x) (first_in (right t active held) xs) e in (p.0, allowed_each t active held xs p.1)
+    let p = both_none (right t active held x) (first_in (right t active held) xs) e in (p.0, allowed_each t active held xs p.1)
 
 -- what holds of each read or write of a kind that may be
 each_if : (P : Access → Type 0) (b : Bool) (x : Access) (ys : List Access) → (b ≡ true → P x) → Each P ys → Each P (cond b (x ∷ ys) ys)

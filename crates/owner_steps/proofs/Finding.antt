@@ -6,10 +6,9 @@ use Rattle.insn_decode.specs.Code.{insn_of, length_at, length_of}
 use Rattle.insn_decode.specs.declared.insn.Insn.{Insn}
 use Rattle.insn_decode.specs.declared.insn.Insn.TheVariants.{Reti, Unit as UnitOp}
 use Rattle.insn_decode.proofs.Unread.{length_same, none_outside, outside_none}
-use Rattle.mod_layout.specs.Table.{Table}
 use Rattle.mod_layout.specs.First.{first_in, first_of}
+use Rattle.mod_layout.proofs.FirstLemmas.{both_none, first_of_map}
 use Rattle.pc_access.specs.Rights.{refuse_if, right}
-use Rattle.pc_access.specs.declared.Access.{Access}
 use Rattle.pc_access.specs.declared.Denied.{Denied}
 use Rattle.pc_access.specs.declared.Rule.{Rule}
 use Rattle.pc_access.specs.declared.Rule.TheVariants.{Illegal, RetiInside, Straddle}
@@ -36,23 +35,11 @@ use Rattle.owner_steps.specs.internal.Watching.{Sees, begun_of}
 use Rattle.owner_steps.specs.declared.watching.Found.{Found}
 use Rattle.owner_steps.specs.declared.watching.Watcher.{Watcher}
 
-first_none : (a b : Option Denied) → option_or a b ≡ None → a ≡ None
-first_none None b e = refl
-first_none (Some d) b e = e
-
-rest_none : (a b : Option Denied) → option_or a b ≡ None → b ≡ None
-rest_none None b e = e
-rest_none (Some d) b e = absurd cc
-
 -- ---- an instruction of which nothing is refused
 
 not_refused : (b : Bool) (rule : Rule) (a id : ℕ) → refuse_if (not b) rule a id ≡ None → b ≡ true
 not_refused true rule a id e = refl
 not_refused false rule a id e = absurd cc
-
-first_of_map : (t : Table) (active : Option ℕ) (held : List ℕ) (xs : List Access) → first_of (map (right t active held) xs) ≡ first_in (right t active held) xs
-first_of_map t active held [] = refl
-first_of_map t active held (x ∷ xs) = ap (option_or (right t active held x)) (first_of_map t active held xs)
 
 no_access : AreAligned []
 no_access k d i = absurd (omega arith)
@@ -80,11 +67,11 @@ unrefused s e =
     let away = refuse_if (not home) Straddle (pc_of s) 0 in
     let inside = refuse_if (returns_inside (insn_at_pc s) s.active) RetiInside (pc_of s) 0 in
     let accesses = first_of (map (check_of s.active s) (asked_by (insn_at_pc s) s)) in
-    let second : option_or away (option_or inside accesses) ≡ None = rest_none no_code (option_or away (option_or inside accesses)) e in
-    let third : option_or inside accesses ≡ None = rest_none away (option_or inside accesses) second in
+    let second : option_or away (option_or inside accesses) ≡ None = (both_none no_code (option_or away (option_or inside accesses)) e).1 in
+    let third : option_or inside accesses ≡ None = (both_none away (option_or inside accesses) second).1 in
     record {
-      home = not_refused home Straddle (pc_of s) 0 (first_none away (option_or inside accesses) second);
-      accesses = sym (first_of_map s.table s.active (held_ids s.frames) (asked_by (insn_at_pc s) s)) ∙ rest_none inside accesses third;
+      home = not_refused home Straddle (pc_of s) 0 (both_none away (option_or inside accesses) second).0;
+      accesses = sym (first_of_map (right s.table s.active (held_ids s.frames)) (asked_by (insn_at_pc s) s)) ∙ (both_none inside accesses third).1;
     }
 
 -- ---- a look
@@ -122,7 +109,7 @@ one_there s insn f b e core_is past_is lines_are refused =
     let t = entered s in
     let turn : case_of s ≡ Begins = begins_is (case_of s) b in
     let all : first_of (checks_by Begins s) ≡ None = ap (λ (x : Turn). first_of (checks_by x s)) (sym turn) ∙ refused in
-    let un : Unrefused t = unrefused t (rest_none (check_of s.active s (fetch s)) (first_of (later_checks t)) all) in
+    let un : Unrefused t = unrefused t (both_none (check_of s.active s (fetch s)) (first_of (later_checks t)) all).1 in
     let long : length_of insn ≡ length_at (first_word t) = length_same (word_at (byte_of s) (pc_of s)) (word_at (byte_of s) (add16 (pc_of s) 2)) (word_at (byte_of s) (add16 (pc_of s) 4)) insn e in
     let home : is_home t.table t.active (pc_of t) (length_of insn) ≡ true = ap (λ (n : ℕ). is_home t.table t.active (pc_of t) n) long ∙ un.home in
     let at : insn_at_pc t ≡ Some insn = ap (λ (n : ℕ). insn_at (byte_of t) (pc_of t) n) (sym long) ∙ home_whole t insn e home in

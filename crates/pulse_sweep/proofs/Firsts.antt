@@ -1,7 +1,7 @@
 -- The first numbers that events give, one event and one cycle after another.
-use Rattle.std.proofs.Common.{◌≡◌, ℕ, suc, ◌+◌, ◌<◌, List, [], get_or, length, drop, true, false, nat_le, Option, Some, None, refl, sym, ◌∙◌, ap, arith}
+use Rattle.std.proofs.Common.{◌≡◌, ℕ, suc, ◌+◌, ◌<◌, List, [], get_or, length, drop, true, false, nat_le, None, refl, sym, ◌∙◌, ap, arith}
 use Rattle.std.proofs.lemmas.List.{at_drop_more}
-use Rattle.std.specs.Option.{option_or}
+use Rattle.mod_layout.proofs.FirstLemmas.{or_else_assoc, or_else_none}
 use Rattle.tracer.specs.declared.Event.{Event}
 use Rattle.written_machine.specs.Cycle.{cycle, after_cycles}
 use Rattle.written_machine.specs.State.{State}
@@ -9,20 +9,12 @@ use Rattle.pulse_sweep.specs.Columns.{columns_after}
 use Rattle.pulse_sweep.specs.declared.columns.Columns.{Columns}
 use Rattle.pulse_sweep.specs.internal.Told.{joined_columns, event_columns, first_columns, columns_of}
 
-or_assoc : (a b c : Option ℕ) → option_or (option_or a b) c ≡ option_or a (option_or b c)
-or_assoc None b c = refl
-or_assoc (Some n) b c = refl
-
-or_none : (a : Option ℕ) → option_or a None ≡ a
-or_none None = refl
-or_none (Some n) = refl
-
 joined_assoc : (a b c : Columns) → joined_columns (joined_columns a b) c ≡ joined_columns a (joined_columns b c)
-joined_assoc a b c = rw (or_assoc a.begins b.begins c.begins, or_assoc a.leaves b.leaves c.leaves, or_assoc a.sends b.sends c.sends) refl
+joined_assoc a b c = rw (or_else_assoc a.begins b.begins c.begins, or_else_assoc a.leaves b.leaves c.leaves, or_else_assoc a.sends b.sends c.sends) refl
 
 -- with nothing
 joined_none : (a : Columns) → joined_columns a record { begins = None; leaves = None; sends = None } ≡ a
-joined_none a = rw (or_none a.begins, or_none a.leaves, or_none a.sends) refl
+joined_none a = rw (or_else_none a.begins, or_else_none a.leaves, or_else_none a.sends) refl
 
 -- before the first event, at the next, and after the last
 pub firsts_start : (x r : Columns) → x ≡ record { begins = None; leaves = None; sends = None } → joined_columns x r ≡ r
