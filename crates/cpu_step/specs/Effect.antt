@@ -1,7 +1,7 @@
 -- What an instruction does once its reads gave their values: the instruction set of the
 -- MSP430x1xx Family User's Guide (SLAU049), section 3.4.
 use Rattle.std.specs.Prelude.{ℕ, List, [], ◌∷◌, drop, ◌==◌, Bool, true, false, not, if◌then◌else◌, ℤ, bit_and, bit_or}
-use Rattle.sm_words.specs.Sums.{low, complement, sum_of, dadd_of, and_of, xor_of, rrc_of, rra_of, sxt_of, swpb_of}
+use Rattle.sm_words.specs.Sums.{low, complement, sum_of, dadd_of, and_of, xor_of, shifted, rra_of, sxt_of, swpb_of}
 use Rattle.sm_words.specs.Words.{nth, reg, put, bit, add16}
 use Rattle.sm_words.specs.Status.{sr_with_flags}
 pub use Rattle.sm_words.specs.Status.{confined_sr}
@@ -47,7 +47,7 @@ two_result Xor w s d c = Flagged (xor_of w d s)
 
 -- format II: of the width, the operand and C
 abbrev pub one_result : OneOp → Width → ℕ → ℕ → Computed
-one_result Rrc w a c = Flagged (rrc_of w a c)
+one_result Rrc w a c = Flagged (shifted w a c)
 one_result Rra w a c = Flagged (rra_of w a)
 one_result Swpb w a c = Plain (swpb_of a)
 one_result Sxt w a c = Flagged (sxt_of a)

@@ -75,13 +75,9 @@ dadd_of w a b carry =
     let t = decimal_sum (digits w) (low w a) (low w b) carry in
     flagged w (low w t) (nat_le (limit w) t) false
 
--- shifted right by one, with a new highest bit; C is the bit shifted out, V is 0
+-- shifted right by one, with a new highest bit, as where it is rotated through the carry; C is the bit shifted out, V is 0
 abbrev pub shifted : Width → ℕ → ℕ → Sum
 shifted w a top = flagged w (low w a / 2 + (limit w / 2) * top) (a % 2 == 1) false
-
--- rotated right through the carry
-abbrev pub rrc_of : Width → ℕ → ℕ → Sum
-rrc_of w a carry = shifted w a carry
 
 -- shifted right with the sign kept
 abbrev pub rra_of : Width → ℕ → Sum

@@ -1,7 +1,7 @@
 //! What the operations keep, each the contract of a function that does nothing.
 ghost use Rattle.std.specs.Prelude.{◌≡◌, ◌+◌, ◌*◌, ◌/◌, ◌%◌, ◌^◌, ◌<◌, ◌≤◌, ◌↔◌, ◌+ℤ◌, ◌-ℤ◌, ◌<ℤ◌, ℕ, List, pos, IsTrue, IsFalse};
 ghost use Rattle.sm_words.specs.Words.{bit, core_of, IsCore};
-ghost use Rattle.sm_words.specs.Sums.{limit, low, is_negative, signed, one_if, is_outside, sum_of, complement, dadd_of, digits, rrc_of, rra_of, sxt_of, swpb_of, and_of, xor_of};
+ghost use Rattle.sm_words.specs.Sums.{limit, low, is_negative, signed, one_if, is_outside, sum_of, complement, dadd_of, digits, shifted, rra_of, sxt_of, swpb_of, and_of, xor_of};
 ghost use Rattle.sm_words.specs.declared.width.Width.TheVariants.{Byte, Word};
 ghost use Rattle.sm_words.specs.Decimals.{IsDecimal, digits_number, bound_of};
 
@@ -55,9 +55,9 @@ pub fn decimal_addition(a: u16, b: u16, c: bool, width: Width)
 /// A rotation through the carry turns the carry and the byte or word as one number: it is halved, its
 /// lowest bit is the new carry.
 pub fn rotation(a: u16, c: bool, width: Width)
-    ensures halves { let s = rrc_of width a (one_if c) in
+    ensures halves { let s = shifted width a (one_if c) in
         2 * s.value + one_if s.c ≡ low width a + limit width * one_if c }
-    ensures fits { (rrc_of width a (one_if c)).value < limit width }
+    ensures fits { (shifted width a (one_if c)).value < limit width }
 {}
 
 /// An arithmetic shift halves a signed number, rounding down; the carry is what is left.

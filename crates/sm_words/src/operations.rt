@@ -1,6 +1,6 @@
 //! The operations on bytes and words.
 ghost use Rattle.std.specs.Prelude.{◌≡◌, ◌<◌, false, nat_le};
-ghost use Rattle.sm_words.specs.Sums.{limit, low, is_negative, one_if, flagged, sum_of, dadd_of, rrc_of, rra_of, sxt_of, swpb_of, and_of, xor_of, decimal_sum, digits};
+ghost use Rattle.sm_words.specs.Sums.{limit, low, is_negative, one_if, flagged, sum_of, dadd_of, shifted, rra_of, sxt_of, swpb_of, and_of, xor_of, decimal_sum, digits};
 
 use crate::width::{Sum, Width};
 
@@ -81,7 +81,7 @@ fn decimal_sum(digits: u8, a: u16, b: u16, c: bool) -> u32
 /// A byte or a word rotated right by one through the carry: the old carry becomes the highest bit, the
 /// lowest bit the carry. V is 0.
 pub fn rrc(a: u16, c: bool, width: Width) -> Sum
-    ensures exact { result ≡ rrc_of width a (one_if c) }
+    ensures exact { result ≡ shifted width a (one_if c) }
 {
     let top = if c { width.limit() / 2 } else { 0 };
     let value = width.low(a) / 2 + top as u16;
