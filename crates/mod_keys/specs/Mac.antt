@@ -11,17 +11,13 @@ short_key key = if nat_lt BLOCK (length key) then sha256 key else key
 abbrev pub block_key : List ℕ → List ℕ
 block_key key = short_key key ++ replicate (BLOCK - length (short_key key)) 0
 
--- the block of the inner hash: each byte exclusive-or ipad (step 4)
-abbrev pub inner_block : List ℕ → List ℕ
-inner_block key = map (λ b. bit_xor b INNER_PAD) (block_key key)
-
--- the block of the outer hash: each byte exclusive-or opad (step 7)
-abbrev pub outer_block : List ℕ → List ℕ
-outer_block key = map (λ b. bit_xor b OUTER_PAD) (block_key key)
+-- that block with each byte exclusive-or a pad: ipad for the inner hash, opad for the outer (steps 4 and 7)
+abbrev pub padded_key : ℕ → List ℕ → List ℕ
+padded_key pad key = map (λ b. bit_xor b pad) (block_key key)
 
 -- the HMAC of a message under a key (steps 5 to 9)
 unfoldable pub hmac : List ℕ → List ℕ → List ℕ
-hmac key message = sha256 (outer_block key ++ sha256 (inner_block key ++ message))
+hmac key message = sha256 (padded_key OUTER_PAD key ++ sha256 (padded_key INNER_PAD key ++ message))
 
 -- the first bytes of a HMAC: a tag or a key
 abbrev pub short_hmac : List ℕ → List ℕ → List ℕ
