@@ -1,5 +1,5 @@
 -- What the module does while it is active is what it does by itself.
-use Rattle.std.proofs.Common.{◌≡◌, ℕ, ◌+◌, ◌-◌, ◌*◌, ◌/◌, ◌%◌, List, [], ◌∷◌, get_or, set, map, refl, sym, ap, ◌∙◌, subst, arith, Bool, true, false, nat_lt, cond, not, ◌&&◌, ◌||◌, Option, Some, None, ⊎_elim}
+use Rattle.std.proofs.Common.{◌≡◌, ℕ, ◌+◌, ◌-◌, ◌*◌, ◌/◌, ◌%◌, List, [], ◌∷◌, get_or, set, map, refl, sym, ap, ◌∙◌, subst, arith, Bool, true, false, nat_lt, cond, not, ◌&&◌, ◌||◌, ◌==◌, Option, Some, None, ⊎_elim}
 use Rattle.std.proofs.lemmas.Bool.{cases_lt, not-true, and_parts, or_cases, or_right}
 use Rattle.std.proofs.lemmas.Bool.Decides.{nat_tests}
 use Rattle.std.specs.Option.{option_or}
@@ -28,7 +28,8 @@ use Rattle.attest.specs.Units.{Doer, UnitName, Unprotect, Protect, Attest, Tag, 
 use Rattle.cpu_step.specs.Asked.{asks, effect, table_after}
 use Rattle.cpu_step.specs.Fetched.{later_word, insn_at, word_in, insn_from, insn_in}
 use Rattle.cpu_step.specs.Lone.{Job, Lone, lone_byte, lone_who, is_alone, is_inside, all_inside, lone_read, lone_write, lone_writes, may_do, next_insn, lone_does}
-use Rattle.written_machine.specs.Cycle.{Step, pc_of, byte_of, at_home, home_word, is_home, who_of, port_of, made_events, perform, attempt, act_on, act_home, act_first, act}
+use Rattle.tracer.specs.declared.Event.TheVariants.{Protect as Made}
+use Rattle.written_machine.specs.Cycle.{Step, pc_of, byte_of, at_home, home_word, is_home, who_of, port_of, perform, attempt, act_on, act_home, act_first, act}
 use Rattle.written_machine.specs.Peers.{section}
 use Rattle.written_machine.specs.Ports.{Port, read_in, read_byte, read_width, write_byte, write_width, take_reads, put_writes}
 use Rattle.written_machine.specs.State.{State}
@@ -284,7 +285,8 @@ module _ (m : ℕ) (own : Module) (t : Table) (sound : Sound m own t) (j : Job) 
     own_is : (who_of s).own ≡ (lone_who j).own
     own_is = ap (λ a. own_of a s.table) active_is ∙ ap (λ u. module_of m u) table_is ∙ sound.found ∙ ap Some (sym owner)
 
-    made_none : (insn : Insn) → is_alone insn ≡ true → made_events s.table (table_after s.table insn s.core) ≡ []
+    made_none : (insn : Insn) → is_alone insn ≡ true →
+        cond ((table_after s.table insn s.core).given == s.table.given) [] (Made (table_after s.table insn s.core).given ∷ []) ≡ []
     made_none insn e = rw (table_alone insn s.table s.core e, own_id s.table.given) refl
 
     pub perform_inside : (insn : Insn) → is_alone insn ≡ true → (xs : List Access) → asks (who_of s) insn s.core ≡ xs → (e : Effect) → effect (who_of s) insn s.core (map (lone_read j (section own.ram s.memory)) (reads_of xs)) ≡ e → Each (λ x. InBy x.width in_sections x.addr) (reads_of xs) → Each (λ x. InBy x.width (λ a. holds own.ram a) x.addr) (writes_of xs) → perform insn s ≡ record { state = record s { core = e.core; memory = (put_writes (port_of s) (writes_of xs) e.stored).memory; phase = Run (e.cycles - 1); after = closing_after e.closing }; events = [] }

@@ -216,12 +216,8 @@ who_of s = record { own = own_of s.active s.table; caller = s.caller; table = s.
 abbrev pub port_of : State → Port
 port_of s = record { devices = s.devices; memory = s.memory }
 
--- the module that an instruction made
-abbrev pub made_events : Table → Table → List Event
-made_events old new = if new.given == old.given then [] else Protected new.given ∷ []
-
--- the accesses and changes of an instruction, where nothing is refused: its reads, its effect, its writes, and what is
--- settled once its cycles have passed
+-- the accesses and changes of an instruction, where nothing is refused: its reads, its effect, its writes, what is
+-- settled once its cycles have passed, and the module that it made
 unfoldable pub perform : Insn → State → Step
 perform insn s =
     let accesses = asks (who_of s) insn s.core in
@@ -231,7 +227,7 @@ perform insn s =
     let table = table_after s.table insn s.core in
     record {
       state = record s { core = e.core; memory = p.memory; devices = p.devices; table = table; phase = Run (e.cycles - 1); after = closing_after e.closing };
-      events = made_events s.table table;
+      events = if table.given == s.table.given then [] else Protected table.given ∷ [];
     }
 
 -- an instruction whose accesses are checked in their order before any is done
