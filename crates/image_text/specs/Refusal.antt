@@ -1,8 +1,7 @@
 -- Why bytes are no image's text: the first line that does not serve.
-use Rattle.std.specs.Prelude.{ℕ, ◌+◌, ◌-◌, ◌*◌, ◌%◌, ◌==◌, nat_lt, if◌then◌else◌, Bool, true, false, not, ◌&&◌, List, [], ◌∷◌, length, drop, nat_eq, slice_range, codes, unwrap_or, Option, Some, None, option_map}
+use Rattle.std.specs.Prelude.{ℕ, ◌+◌, ◌-◌, ◌*◌, ◌%◌, ◌==◌, nat_lt, if◌then◌else◌, Bool, true, false, not, ◌&&◌, List, [], ◌∷◌, length, drop, nat_eq, bytes_eq, slice_range, codes, unwrap_or, Option, Some, None, option_map}
 use Rattle.std.specs.List.{starts_with}
 use Rattle.std.specs.Option.{option_map_or, option_or}
-use Rattle.std.specs.Cmp.Lexicographic.{pointwise}
 use Rattle.texts.specs.Decimals.{read_decimal}
 use Rattle.texts.specs.Hexadecimals.{is_hex_digit, read_hex, read_hex_word}
 use Rattle.mod_layout.specs.declared.Section.{Section}
@@ -109,7 +108,7 @@ row_or last s line rest =
 abbrev pub rows_refusal : ℕ → Spot → List (List ℕ) → List ℕ → Option ImageFault
 rows_refusal last s [] tail = line_fault s
 rows_refusal last s (line ∷ more) tail =
-    if pointwise nat_eq line end_line
+    if bytes_eq line end_line
     then end_refusal (next_spot line s) more tail
     else formed row_form s line (row_or last s line (rows_refusal (digits_word 3 line) (next_spot line s) more tail))
 
@@ -171,8 +170,8 @@ version_refusal s line =
 abbrev pub first_refusal : Spot → List (List ℕ) → List ℕ → Option ImageFault
 first_refusal s [] tail = line_fault s
 first_refusal s (line ∷ more) tail =
-    if pointwise nat_eq line (codes "sancus-image 1") then key_refusal 8 (next_spot line s) more tail
-    else if pointwise nat_eq line (codes "sancus-image 2") then key_refusal 32 (next_spot line s) more tail
+    if bytes_eq line (codes "sancus-image 1") then key_refusal 8 (next_spot line s) more tail
+    else if bytes_eq line (codes "sancus-image 2") then key_refusal 32 (next_spot line s) more tail
     else version_refusal s line
 
 -- the refusal of a text, or none
