@@ -1,20 +1,16 @@
 -- The keys that are derived by HMAC, and tags under them.
-use Rattle.std.specs.Prelude.{ℕ, List, [], ◌∷◌, ◌++◌}
-use Rattle.sm_words.specs.Words.{low_byte, high_byte}
+use Rattle.std.specs.Prelude.{ℕ, List, ◌++◌}
+use Rattle.sm_words.specs.Bytes.{word_bytes}
 use Rattle.mod_layout.specs.declared.Module.{Module}
 use Rattle.mod_keys.specs.Mac.{short_hmac}
 
--- a word as two bytes, the low byte first
-abbrev pub two_bytes : ℕ → List ℕ
-two_bytes w = low_byte w ∷ high_byte w ∷ []
-
 -- the key of a vendor's modules on a node
 unfoldable pub provider_key : List ℕ → ℕ → List ℕ
-provider_key node_key vendor = short_hmac node_key (two_bytes vendor)
+provider_key node_key vendor = short_hmac node_key (word_bytes vendor)
 
 -- what the identity of a module has past its text: where its text and its data start and end
 abbrev pub identity_tail : Module → List ℕ
-identity_tail m = two_bytes m.text.start ++ two_bytes m.text.end ++ two_bytes m.ram.start ++ two_bytes m.ram.end
+identity_tail m = word_bytes m.text.start ++ word_bytes m.text.end ++ word_bytes m.ram.start ++ word_bytes m.ram.end
 
 -- what a module is: its text and its places
 abbrev pub identity : Module → List ℕ → List ℕ
