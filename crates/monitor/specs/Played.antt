@@ -1,5 +1,5 @@
 -- What playing a script on a sink does.
-use Rattle.std.specs.Prelude.{◌≡◌, ℕ, ◌<◌, List, ◌∷◌, ◌++◌, length, take, Option, Some, None}
+use Rattle.std.specs.Prelude.{◌≡◌, ℕ, ◌<◌, List, ◌∷◌, ◌++◌, length, take, Option}
 use Rattle.std.specs.Io.KnownBytes.{Appends}
 use Rattle.schedule_file.specs.declared.Entry.{Entry}
 use Rattle.image_text.specs.Image.{Image}
@@ -10,7 +10,7 @@ use Rattle.written_machine.specs.Script.{Move, led, moves, moves_text, play}
 use Rattle.written_machine.specs.declared.ScriptLine.{ScriptLine}
 use Rattle.isolation.specs.Moments.{moment}
 use Rattle.board.specs.declared.Ran.{Ran}
-use Rattle.board.specs.declared.Ran.TheVariants as ran
+use Rattle.board.specs.Ran.{WholeOrCut}
 use Rattle.board.specs.Alike.{TookLines}
 
 module _ {S : Type 0} (taken : S → Option (List ℕ)) (faults sure : S → ℕ) where
@@ -34,9 +34,8 @@ module _ {S : Type 0} (taken : S → Option (List ℕ)) (faults sure : S → ℕ
 
   -- a script that is played to its end, or cut short by the sink
   abbrev pub Plays : List ScriptLine → Marked → Marked → S → S → Ran → Type 0
-  Plays script old new before after ran.Done = Whole old new before after (moves old script) × (new.present.stop ≡ None)
-  Plays script old new before after (ran.Stopped stop) = Whole old new before after (moves old script) × (new.present.stop ≡ Some stop)
-  Plays script old new before after ran.SinkFailed = CutShort new before after (moves old script)
+  Plays script old new before after ended =
+      WholeOrCut new.present.stop (Whole old new before after (moves old script)) (CutShort new before after (moves old script)) ended
 
   -- where the board stands after k cycles of an image, with marks after so many cycles each, the sink took what the script
   -- writes there for each peer, or failed within it
