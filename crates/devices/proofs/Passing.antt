@@ -2,7 +2,8 @@
 use Rattle.std.proofs.Common.{ℕ, zero, suc, ◌≡◌, ◌+◌, ◌-◌, ◌≤◌, ◌<◌, ◌∙◌, List, length, drop, get_or, Bool, true, false, cond, ◌&&◌, Option, Some, None, refl, sym, ap, subst, arith, nat_eq, min}
 use Rattle.std.specs.Option.{option_or}
 use Rattle.schedule_file.specs.declared.Entry.{Entry}
-use Rattle.devices.specs.Devices.{Devices, line_of, timer_line, serial_line, highest_line}
+use Rattle.devices.specs.Devices.{Devices, line_of, highest_line}
+use Rattle.devices.specs.declared.registers.TheConstants.{SERIAL_VECTOR, TIMER_VECTOR}
 use Rattle.devices.specs.Time.{ticked_by, before_entries, timer_quiet, quiet_of}
 use Rattle.devices.specs.internal.Time.{after_ticks}
 use Rattle.devices.specs.Parts.{LinesPart, SerialPart, TimerPart, serial_alone, timer_alone}
@@ -14,6 +15,13 @@ use Rattle.devices.proofs.Order.{Rises, Rises-all, past_count-le-length}
 use Rattle.devices.proofs.Acting.{cleared, acted_within, ticked_by-within, within-before, counts_by}
 use Rattle.devices.proofs.Waiting.{within-quiet, before_entries-le, before_entries-due, before_entries-done, past_count-cycle}
 use Rattle.std.proofs.lemmas.List.{get_or-drop, length-drop}
+
+-- the vectors of the timer and of the serial device
+abbrev pub timer_line : Devices → Option ℕ
+timer_line d = cond (d.alarm && d.flag) (Some TIMER_VECTOR) None
+
+abbrev pub serial_line : Devices → Option ℕ
+serial_line d = cond (d.listening && d.got) (Some SERIAL_VECTOR) None
 
 -- the serial device after n ticks
 abbrev pub serial_after : ℕ → SerialPart → SerialPart

@@ -55,18 +55,15 @@ ticked_devices d k = counts (scheduled d.schedule k (record d { sent = None }))
 abbrev pub line_raised : Devices → ℕ → Bool
 line_raised d n = (bit_at d.enabled n == 1) && (bit_at d.levels n == 1)
 
--- the highest raised vector: the timer's, then the serial device's, then those of the lines from the last down
-abbrev pub timer_line : Devices → Option ℕ
-timer_line d = if d.alarm && d.flag then Some TIMER_VECTOR else None
-
-abbrev pub serial_line : Devices → Option ℕ
-serial_line d = if d.listening && d.got then Some SERIAL_VECTOR else None
-
+-- the vector of the last line that raises its own
 abbrev pub highest_line : Devices → Option ℕ
 highest_line d = find (λ v. line_raised d (v - LINES_VECTOR)) (map (λ n. LINES_VECTOR + n) (3 ∷ 2 ∷ 1 ∷ 0 ∷ []))
 
+-- the highest raised vector: the timer's, then the serial device's, then those of the lines
 unfoldable pub line_of : Devices → Option ℕ
-line_of d = option_or (timer_line d) (option_or (serial_line d) (highest_line d))
+line_of d =
+    option_or (if d.alarm && d.flag then Some TIMER_VECTOR else None)
+    (option_or (if d.listening && d.got then Some SERIAL_VECTOR else None) (highest_line d))
 
 -- acceptance of the timer's vector clears its flag
 unfoldable pub accepted : Devices → ℕ → Devices

@@ -21,7 +21,8 @@ use Rattle.pc_access.specs.declared.Rule.{Rule}
 use Rattle.pc_access.specs.declared.Stop.{Stop}
 use Rattle.std.specs.Int.{bit_at}
 use Rattle.devices.specs.declared.registers.TheConstants.{LINES_ENABLE, SERIAL_CONTROL, SERIAL_DATA, TIMER_CONTROL, TIMER_COUNT, TIMER_COUNT_HIGH, TIMER_LIMIT, TIMER_LIMIT_HIGH, TIMER_VECTOR}
-use Rattle.devices.specs.Devices.{with_low, with_high, Devices, write_of, after_read, accepted, line_of, timer_line, serial_line, line_raised}
+use Rattle.devices.specs.Devices.{with_low, with_high, Devices, write_of, after_read, accepted, line_of, line_raised}
+use Rattle.devices.proofs.Passing.{timer_line, serial_line}
 use Rattle.image_text.specs.Image.{Image, IsImage}
 use Rattle.reg_backup.specs.Held.{held_ids}
 use Rattle.reg_backup.specs.declared.backup.After.{After}
