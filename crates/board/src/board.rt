@@ -7,7 +7,7 @@ ghost use Rattle.written_machine.specs.Cycle.{cycle};
 ghost use Rattle.written_machine.specs.Passing.{Leads};
 ghost use Rattle.written_machine.specs.Standing.{stands_at};
 ghost use Rattle.written_machine.specs.Marks.{at_state, unmarked};
-ghost use Rattle.written_machine.specs.Trace.{end_of, end_line_of, event_lines};
+ghost use Rattle.written_machine.specs.Trace.{end_by, end_line_of, event_lines};
 ghost use Rattle.written_machine.specs.View.{boot};
 ghost use Rattle.sm_io.specs.Sink.{Puts};
 ghost use Rattle.board.specs.Alike.{PeersTell, PeersShow, PeersRun, PeersEnd};
@@ -239,7 +239,7 @@ impl Board {
 
     // How it stands at the end of a run.
     fn end_state(&self) -> EndState
-        ensures { result ≡ end_of self.now.present }
+        ensures { result ≡ end_by self.now.present.stop self.now.present.active self.now.present.core }
     {
         match (self.machine.stop, self.machine.active) {
             (Some(_), _) => EndState::Stopped,

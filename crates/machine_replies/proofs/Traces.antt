@@ -12,7 +12,7 @@ use Rattle.tracer.specs.Lines.{event_line}
 use Rattle.tracer.specs.declared.Event.{Event}
 use Rattle.written_machine.specs.Cycle.{Step, settle, ticked, told, turn, counted_by, move, cycle, after_cycles}
 use Rattle.written_machine.specs.State.{State}
-use Rattle.written_machine.specs.Trace.{event_lines, lines_after, end_by, end_of, end_line_of}
+use Rattle.written_machine.specs.Trace.{event_lines, lines_after, end_by, end_line_of}
 use Rattle.written_machine.specs.View.{at, boot}
 use Rattle.written_machine.proofs.Stops.{cycle_by}
 use Rattle.vendor_tool.specs.Laws.{TimedEvent, IsTold, IsEndState, StandsInPlace, events_text, sent_in, sent}
@@ -129,7 +129,7 @@ machine_traces_are_read a schedule n ok low =
     let fine = fine_at a schedule n ok in
     let number = number_most a schedule n in
     ap (λ t. replies_of (t ++ end_line_of last)) (sym (run_text s n))
-    ∙ traces_are_read (run_events s n) last.cycle (end_of last) (all_of IsTold (run_events s n) (run_told a schedule n ok low)) (omega arith)
+    ∙ traces_are_read (run_events s n) last.cycle (end_by last.stop last.active last.core) (all_of IsTold (run_events s n) (run_told a schedule n ok low)) (omega arith)
     (end_fits last.stop last.active last.core fine.active_small fine.core_ok)
     ∙ ap (λ (bytes : List ℕ). Ok bytes) (run_sent s n)
 

@@ -15,19 +15,15 @@ use Rattle.written_machine.specs.View.{boot, at}
 abbrev pub event_lines : ℕ → List Event → List ℕ
 event_lines c events = flat_map (event_line c) events
 
--- by the stop, if there is one, and by the active module, if there is one
+-- how a state stands at the end: by the stop, if there is one, and by the active module, if there is one
 abbrev pub end_by : Option Stop → Option ℕ → List ℕ → EndState
 end_by (Some stop) active core = EndsStopped
 end_by None (Some id) core = Inside id
 end_by None None core = Outside core
 
--- how a state stands at the end
-abbrev pub end_of : State → EndState
-end_of s = end_by s.stop s.active s.core
-
 -- the end line, with the number of cycles that have passed
 abbrev pub end_line_of : State → List ℕ
-end_line_of s = end_line_at s.cycle (end_of s)
+end_line_of s = end_line_at s.cycle (end_by s.stop s.active s.core)
 
 -- the lines of the next n cycles
 abbrev pub lines_after : State → ℕ → List ℕ
