@@ -184,23 +184,25 @@ abbrev pub blank : List ℕ → List ℕ → List ℕ
 blank [] core = core
 blank (r ∷ rs) core = slice_set (blank rs core) r 0
 
--- two ends that are alike, where the cores may differ in the answers; where they do not differ at all, rest must hold of the data left
-abbrev pub alike_but : List ℕ → (List ℕ → List ℕ → Type 0) → CallEnd → CallEnd → Type 0
+-- two ends that are alike, where the cores may differ in the answers; of the cores and of the data left, rest must hold
+abbrev pub alike_but : List ℕ → (List ℕ → List ℕ → List ℕ → List ℕ → Type 0) → CallEnd → CallEnd → Type 0
 alike_but answers rest Running Running = Unit {0}
 alike_but answers rest (Closing c d k) (Closing c' d' k') = (blank answers c ≡ blank answers c') × (k ≡ k')
-alike_but answers rest (Exit c d k) (Exit c' d' k') = (blank answers c ≡ blank answers c') × (k ≡ k') × (c ≡ c' → rest d d')
+alike_but answers rest (Exit c d k) (Exit c' d' k') = (blank answers c ≡ blank answers c') × (k ≡ k') × rest c c' d d'
 alike_but answers rest _ _ = ⊥
 
 -- the call of a module with this text
 abbrev pub job_of : List ℕ → Module → List ℕ → ℕ → Job
 job_of key m text caller = record { key = key; owner = m; text = text; caller = caller }
 
--- these calls, one after another, end alike but for the answers from both data, within n cycles each
+-- these calls, one after another, end alike but for the answers from both data, within n cycles each; where the cores do not differ
+-- at all, the later calls do so from the data left
 abbrev pub EvenBut : List ℕ → List ℕ → Module → List ℕ → ℕ → List Entrance → List ℕ → List ℕ → Type 0
 EvenBut answers key m text n [] d1 d2 = Unit {0}
 EvenBut answers key m text n (e ∷ es) d1 d2 =
     let j = job_of key m text e.caller in
-    alike_but answers (EvenBut answers key m text n es) (outcome j n (starts e d1)) (outcome j n (starts e d2))
+    alike_but answers (λ c c' left left'. c ≡ c' → EvenBut answers key m text n es left left')
+    (outcome j n (starts e d1)) (outcome j n (starts e d2))
 
 -- an entry of the module: a core whose PC is the text's start, and a caller id
 pub record IsEntry (m : Module) (e : Entrance) : Type 0 where

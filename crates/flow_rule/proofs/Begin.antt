@@ -22,7 +22,7 @@ use Rattle.cpu_step.specs.Asked.{asks, effect}
 use Rattle.cpu_step.specs.Lone.{Job, lone_does, all_inside, lone_who, Does, doing, job_of, outcome, Running, later, is_alone}
 use Rattle.arm_balance.specs.Met.{text_byte, met}
 use Rattle.flow_rule.specs.Terms.{Terms}
-use Rattle.flow_rule.specs.Laws.{ends_but}
+use Rattle.cpu_step.proofs.Alike.{ends_but}
 use Rattle.entry_stubs.specs.Stub.{stub_front}
 use Rattle.flow_rule.proofs.Cores.{put_other_reg, carry_bit, confined_small, confined_kept, away_even}
 use Rattle.flow_rule.proofs.Words.{Shape}

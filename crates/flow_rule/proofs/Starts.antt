@@ -14,7 +14,8 @@ use Rattle.flow_rule.specs.declared.Val.TheVariants.{Away, Public, Secret}
 use Rattle.flow_rule.specs.Values.{val}
 use Rattle.flow_rule.specs.Stub.{word_number}
 use Rattle.flow_rule.specs.Verdict.{no_secret, start_point}
-use Rattle.flow_rule.specs.Laws.{AgreeOn, ends_but}
+use Rattle.cpu_step.proofs.Alike.{ends_but}
+use Rattle.flow_rule.specs.Laws.{AgreeOn}
 use Rattle.flow_rule.proofs.Meaning.{Agrees}
 use Rattle.flow_rule.proofs.Words.{Shape, IsData}
 use Rattle.flow_rule.proofs.Telling.{opened_at}

@@ -4,7 +4,7 @@ use Rattle.sm_words.specs.Words.{word_at}
 use Rattle.mod_layout.specs.declared.Module.{Module}
 use Rattle.mod_layout.specs.Table.{size_of}
 use Rattle.mod_layout.specs.Tables.{IsSection}
-use Rattle.cpu_step.specs.Lone.{CallEnd, Exit, Closing, Running, Entrance, IsEntry, starts, job_of, outcome, blank, AlwaysEven, AlwaysEvenBut}
+use Rattle.cpu_step.specs.Lone.{Entrance, IsEntry, starts, job_of, outcome, alike_but, AlwaysEven, AlwaysEvenBut}
 use Rattle.flow_rule.specs.Terms.{Terms}
 use Rattle.flow_rule.specs.declared.Verdict.{Verdict}
 use Rattle.flow_rule.specs.declared.Verdict.TheVariants.{Yes}
@@ -34,19 +34,13 @@ abbrev pub EvenUnder : Terms → Module → List ℕ → Type 0
 EvenUnder terms m text =
     (key d1 d2 : List ℕ) → IsData m d1 → IsData m d2 → AgreeOn m terms.public d1 d2 → AlwaysEvenBut terms.answers key m text d1 d2
 
--- two ends that are alike but for the answers; whatever these are, this holds of the data left
-abbrev pub ends_but : List ℕ → (List ℕ → List ℕ → Type 0) → CallEnd → CallEnd → Type 0
-ends_but answers rest Running Running = Unit {0}
-ends_but answers rest (Closing c d k) (Closing c' d' k') = (blank answers c ≡ blank answers c') × (k ≡ k')
-ends_but answers rest (Exit c d k) (Exit c' d' k') = (blank answers c ≡ blank answers c') × (k ≡ k') × rest d d'
-ends_but answers rest _ _ = ⊥
-
 -- a call from two data that agree on the public words leaves two such data, whatever its answers are
 abbrev pub KeptUnder : Terms → Module → List ℕ → Type 0
 KeptUnder terms m text =
     (key d1 d2 : List ℕ) → IsData m d1 → IsData m d2 → AgreeOn m terms.public d1 d2 → (e : Entrance) → IsEntry m e → (n : ℕ) →
     let j = job_of key m text e.caller in
-    ends_but terms.answers (λ x y. IsData m x × IsData m y × AgreeOn m terms.public x y) (outcome j n (starts e d1)) (outcome j n (starts e d2))
+    alike_but terms.answers (λ c c' x y. IsData m x × IsData m y × AgreeOn m terms.public x y)
+    (outcome j n (starts e d1)) (outcome j n (starts e d2))
 
 -- a text that the rule accepts, under any certificates, is even for every two data
 abbrev pub Evenness : Type 0

@@ -1,7 +1,8 @@
 -- Even calls with a bound for each call, which the proofs follow, and that one bound for all says as much.
 use Rattle.std.proofs.Common.{◌≡◌, ℕ, List, [], ◌∷◌, false, zero, suc, ◌+◌, ◌≤◌, max, refl, sym, ap, ◌∙◌, subst, arith, Bool, true, nat_lt, cond}
 use Rattle.mod_layout.specs.declared.Module.{Module}
-use Rattle.cpu_step.specs.Lone.{starts, Lone, outcome, alike_but, job_of, Job, Entrance, CallEnd, Exit, Closing, Broken, Running, later, Doing, Waits, Closes, Leaves, Breaks, Does, doing, lone_does, at_once, in_time, EvenBut, IsEntry, AlwaysEvenBut}
+use Rattle.cpu_step.proofs.Alike.{ends_then}
+use Rattle.cpu_step.specs.Lone.{starts, Lone, outcome, job_of, Job, Entrance, CallEnd, Exit, Closing, Broken, Running, later, Doing, Waits, Closes, Leaves, Breaks, Does, doing, lone_does, at_once, in_time, EvenBut, IsEntry, AlwaysEvenBut}
 use Rattle.isolation.proofs.Each.{Each}
 use Rattle.std.proofs.lemmas.Bool.Decides.{nat_tests}
 use Rattle.std.proofs.lemmas.List.Elements.{All-nil, All-cons}
@@ -25,7 +26,7 @@ abbrev pub EvenBy : List ℕ → List ℕ → Module → List ℕ → List Call_
 EvenBy answers key m text [] d1 d2 = Unit {0}
 EvenBy answers key m text (e ∷ es) d1 d2 =
     let j = job_of key m text e.caller in
-    alike_but answers (EvenBy answers key m text es) (outcome j e.within (begins e d1)) (outcome j e.within (begins e d2))
+    ends_then answers (EvenBy answers key m text es) (outcome j e.within (begins e d1)) (outcome j e.within (begins e d2))
 
 abbrev pub AlwaysEvenBy : List ℕ → List ℕ → Module → List ℕ → List ℕ → List ℕ → Type 0
 AlwaysEvenBy answers key m text d1 d2 = (es : List Call_of) → Each (IsCall m) es → EvenBy answers key m text es d1 d2
@@ -86,14 +87,14 @@ module _ (j : Job) where
   outcome_cut (suc n) (suc m) l le = suc_cut (doing j l) n (outcome j n) (outcome j m) l (λ l'. outcome_cut n m l' (omega arith))
 
 module _ (answers : List ℕ) where
-  alike_if : (P : List ℕ → List ℕ → Type 0) (b : Bool) (o p : CallEnd) → alike_but answers P o p → alike_but answers P (cond b o Running) (cond b p Running)
+  alike_if : (P : List ℕ → List ℕ → Type 0) (b : Bool) (o p : CallEnd) → ends_then answers P o p → ends_then answers P (cond b o Running) (cond b p Running)
   alike_if P true o p h = h
   alike_if P false o p h = tt
 
-  alike_cut : (P Q : List ℕ → List ℕ → Type 0) (n : ℕ) (o p : CallEnd) → ((d d' : List ℕ) → P d d' → Q d d') → alike_but answers P o p → alike_but answers Q (cut n o) (cut n p)
+  alike_cut : (P Q : List ℕ → List ℕ → Type 0) (n : ℕ) (o p : CallEnd) → ((d d' : List ℕ) → P d d' → Q d d') → ends_then answers P o p → ends_then answers Q (cut n o) (cut n p)
   alike_cut P Q n Running Running f h = tt
-  alike_cut P Q n (Closing c d k) (Closing c' d' k') f h = subst (λ i. alike_but answers Q (cut n (Closing c d k)) (cond (nat_lt i (suc n)) (Closing c' d' k') Running)) h.1 (alike_if Q (nat_lt k (suc n)) (Closing c d k) (Closing c' d' k') h)
-  alike_cut P Q n (Exit c d k) (Exit c' d' k') f h = subst (λ i. alike_but answers Q (cut n (Exit c d k)) (cond (nat_lt i (suc n)) (Exit c' d' k') Running)) h.1 (alike_if Q (nat_lt k (suc n)) (Exit c d k) (Exit c' d' k') (h.0, h.1, λ same. f d d' (h.2 same)))
+  alike_cut P Q n (Closing c d k) (Closing c' d' k') f h = subst (λ i. ends_then answers Q (cut n (Closing c d k)) (cond (nat_lt i (suc n)) (Closing c' d' k') Running)) h.1 (alike_if Q (nat_lt k (suc n)) (Closing c d k) (Closing c' d' k') h)
+  alike_cut P Q n (Exit c d k) (Exit c' d' k') f h = subst (λ i. ends_then answers Q (cut n (Exit c d k)) (cond (nat_lt i (suc n)) (Exit c' d' k') Running)) h.1 (alike_if Q (nat_lt k (suc n)) (Exit c d k) (Exit c' d' k') (h.0, h.1, λ same. f d d' (h.2 same)))
   alike_cut P Q n _ _ f h = absurd h
 
 module _ (answers key : List ℕ) (own : Module) (text : List ℕ) where
@@ -110,8 +111,8 @@ module _ (answers key : List ℕ) (own : Module) (text : List ℕ) where
   lower n (e ∷ es) d1 d2 le h =
       let j = job_of key own text e.caller in
       let a = alike_cut answers (EvenBut answers key own text n (plain es)) (EvenBy answers key own text es) e.within (outcome j n (begins e d1)) (outcome j n (begins e d2)) (λ x y. lower n es x y (omega arith)) h in
-      let a1 = subst (λ o. alike_but answers (EvenBy answers key own text es) o (cut e.within (outcome j n (begins e d2)))) (sym (outcome_cut j e.within n (begins e d1) (omega arith))) a in
-      subst (λ o. alike_but answers (EvenBy answers key own text es) (outcome j e.within (begins e d1)) o) (sym (outcome_cut j e.within n (begins e d2) (omega arith))) a1
+      let a1 = subst (λ o. ends_then answers (EvenBy answers key own text es) o (cut e.within (outcome j n (begins e d2)))) (sym (outcome_cut j e.within n (begins e d1) (omega arith))) a in
+      subst (λ o. ends_then answers (EvenBy answers key own text es) (outcome j e.within (begins e d1)) o) (sym (outcome_cut j e.within n (begins e d2) (omega arith))) a1
 
   plain_entries : (es : List Call_of) → Each (IsCall own) es → All (IsEntry own) (plain es)
   plain_entries [] h = All-nil (IsEntry own)

@@ -1,13 +1,14 @@
 -- Two calls that are even go on together.
 use Rattle.std.proofs.Common.{◌≡◌, ℕ, zero, suc, List, [], arith}
 use Rattle.mod_layout.specs.declared.Module.{Module}
-use Rattle.cpu_step.specs.Lone.{Job, Lone, CallEnd, Exit, Closing, Broken, Running, later, Doing, Waits, Closes, Leaves, Breaks, Does, doing, lone_does, at_once, in_time, outcome, blank, alike_but}
+use Rattle.cpu_step.proofs.Alike.{ends_then}
+use Rattle.cpu_step.specs.Lone.{Job, Lone, CallEnd, Exit, Closing, Broken, Running, later, Doing, Waits, Closes, Leaves, Breaks, Does, doing, lone_does, at_once, in_time, outcome, blank}
 use Rattle.isolation.proofs.Each.{Each}
 use Rattle.isolation.proofs.EvenBy.{Call_of, EvenBy, IsCall, AlwaysEvenBy}
 
 -- from here on the two calls, and all that come after, are even
 pub record Evenly (answers key : List ℕ) (own : Module) (text : List ℕ) (j : Job) (la lb : Lone) : Type 0 where
-  pub always : (n : ℕ) (es : List Call_of) → Each (IsCall own) es → alike_but answers (EvenBy answers key own text es) (outcome j n la) (outcome j n lb)
+  pub always : (n : ℕ) (es : List Call_of) → Each (IsCall own) es → ends_then answers (EvenBy answers key own text es) (outcome j n la) (outcome j n lb)
 
 -- what both do next
 abbrev pub Together : List ℕ → List ℕ → Module → List ℕ → Job → Doing → Doing → Lone → Lone → Type 0
@@ -19,7 +20,7 @@ Together answers key own text j (Does i) (Waits r) la lb = Evenly answers key ow
 Together answers key own text j (Does i) (Does i') la lb = Evenly answers key own text j (lone_does j i la) (lone_does j i' lb)
 Together answers key own text j _ _ la lb = ⊥
 
-later_alike : (answers : List ℕ) (P : List ℕ → List ℕ → Type 0) (o p : CallEnd) → alike_but answers P (later o) (later p) → alike_but answers P o p
+later_alike : (answers : List ℕ) (P : List ℕ → List ℕ → Type 0) (o p : CallEnd) → ends_then answers P (later o) (later p) → ends_then answers P o p
 later_alike answers P Running Running h = tt
 later_alike answers P (Closing c d k) (Closing c' d' k') h = (h.0, omega (arith, h.1))
 later_alike answers P (Exit c d k) (Exit c' d' k') h = (h.0, omega (arith, h.1), h.2)
@@ -27,15 +28,15 @@ later_alike answers P _ _ h = h
 
 module _ (answers key : List ℕ) (own : Module) (text : List ℕ) (j : Job) (la lb : Lone) where
   abbrev Now : Doing → Doing → Type 0
-  Now x y = (es : List Call_of) → Each (IsCall own) es → alike_but answers (EvenBy answers key own text es) (at_once x la) (at_once y lb)
+  Now x y = (es : List Call_of) → Each (IsCall own) es → ends_then answers (EvenBy answers key own text es) (at_once x la) (at_once y lb)
 
   abbrev Soon : Doing → Doing → Type 0
-  Soon x y = (n : ℕ) (es : List Call_of) → Each (IsCall own) es → alike_but answers (EvenBy answers key own text es) (in_time x (outcome j n) j la) (in_time y (outcome j n) j lb)
+  Soon x y = (n : ℕ) (es : List Call_of) → Each (IsCall own) es → ends_then answers (EvenBy answers key own text es) (in_time x (outcome j n) j la) (in_time y (outcome j n) j lb)
 
-  go_on : (x y : Lone) → ((n : ℕ) (es : List Call_of) → Each (IsCall own) es → alike_but answers (EvenBy answers key own text es) (later (outcome j n x)) (later (outcome j n y))) → Evenly answers key own text j x y
+  go_on : (x y : Lone) → ((n : ℕ) (es : List Call_of) → Each (IsCall own) es → ends_then answers (EvenBy answers key own text es) (later (outcome j n x)) (later (outcome j n y))) → Evenly answers key own text j x y
   go_on x y h = record { always = λ n es v. later_alike answers (EvenBy answers key own text es) (outcome j n x) (outcome j n y) (h n es v) }
 
-  broken_right : (o : CallEnd) → alike_but answers (EvenBy answers key own text []) (later o) (Broken lb.data_bytes 0) → ⊥
+  broken_right : (o : CallEnd) → ends_then answers (EvenBy answers key own text []) (later o) (Broken lb.data_bytes 0) → ⊥
   broken_right Running h = h
   broken_right _ h = h
 

@@ -17,7 +17,8 @@ use Rattle.cycle_table.specs.Cycles.{cycles_of}
 use Rattle.mod_layout.specs.Table.{holds}
 use Rattle.cpu_step.specs.Asked.{asks, effect}
 use Rattle.cpu_step.specs.Effect.{does_freely, confined, does}
-use Rattle.cpu_step.specs.Lone.{Job, Lone, IsEntry, CallEnd, Exit, Closing, Running, later, Does, Leaves, doing_by, doing, next_insn, lone_does, at_once, in_time, outcome, alike_but, job_of, EvenBut, AlwaysEven}
+use Rattle.cpu_step.proofs.Alike.{ends_then}
+use Rattle.cpu_step.specs.Lone.{Job, Lone, IsEntry, CallEnd, Exit, Closing, Running, later, Does, Leaves, doing_by, doing, next_insn, lone_does, at_once, in_time, outcome, job_of, EvenBut, AlwaysEven}
 use Rattle.cpu_step.specs.Plan.{plan}
 use Rattle.written_machine.specs.Peers.{section}
 use Rattle.peer_rows.specs.Rows.{row_module, memory_of, row_image, returning, ReturningPeers}
@@ -64,7 +65,7 @@ places core s = by (holds (row_module 0x0302).text (reg core PC)) refl
 
 -- ---- two calls
 
-later_alike : (R : List ℕ → List ℕ → Type 0) (o p : CallEnd) → alike_but [] R o p → alike_but [] R (later o) (later p)
+later_alike : (R : List ℕ → List ℕ → Type 0) (o p : CallEnd) → ends_then [] R o p → ends_then [] R (later o) (later p)
 later_alike R Running Running h = tt
 later_alike R (Closing c d k) (Closing c' d' k') h = (h.0, ap (λ i. i + 1) h.1)
 later_alike R (Exit c d k) (Exit c' d' k') h = (h.0, ap (λ i. i + 1) h.1, h.2)
@@ -91,10 +92,10 @@ module _ (key : List ℕ) (caller : ℕ) where
       ap (λ x. in_time x (outcome job n) job (stands core d 0)) (begins core d start) ∙ ap (λ l. later (outcome job n l)) (does_back core d)
 
   module _ (R : List ℕ → List ℕ → Type 0) (d e : List ℕ) (r : R d e) where
-    both : (x y o p : CallEnd) → x ≡ o → y ≡ p → alike_but [] R o p → alike_but [] R x y
-    both x y o p f g h = subst (λ z. alike_but [] R z y) (sym f) (subst (λ z. alike_but [] R o z) (sym g) h)
+    both : (x y o p : CallEnd) → x ≡ o → y ≡ p → ends_then [] R o p → ends_then [] R x y
+    both x y o p f g h = subst (λ z. ends_then [] R z y) (sym f) (subst (λ z. ends_then [] R o z) (sym g) h)
 
-    leaves : (n : ℕ) (core : List ℕ) → holds (row_module 0x0302).text (reg core PC) ≡ false → alike_but [] R (outcome job n (stands core d 0)) (outcome job n (stands core e 0))
+    leaves : (n : ℕ) (core : List ℕ) → holds (row_module 0x0302).text (reg core PC) ≡ false → ends_then [] R (outcome job n (stands core d 0)) (outcome job n (stands core e 0))
     leaves zero core out =
         both (outcome job 0 (stands core d 0)) (outcome job 0 (stands core e 0)) (Exit core d 0) (Exit core e 0)
         (ap (λ x. at_once x (stands core d 0)) (ends core d out)) (ap (λ x. at_once x (stands core e 0)) (ends core e out)) (refl, refl, λ same. r)
@@ -102,7 +103,7 @@ module _ (key : List ℕ) (caller : ℕ) where
         both (outcome job (suc n) (stands core d 0)) (outcome job (suc n) (stands core e 0)) (Exit core d 0) (Exit core e 0)
         (ap (λ x. in_time x (outcome job n) job (stands core d 0)) (ends core d out)) (ap (λ x. in_time x (outcome job n) job (stands core e 0)) (ends core e out)) (refl, refl, λ same. r)
 
-    ends_alike : (n rest : ℕ) (core : List ℕ) → IsCore core → alike_but [] R (outcome job n (stands core d rest)) (outcome job n (stands core e rest))
+    ends_alike : (n rest : ℕ) (core : List ℕ) → IsCore core → ends_then [] R (outcome job n (stands core d rest)) (outcome job n (stands core e rest))
     unfolding doing
     ends_alike zero (suc k) core s = tt
     ends_alike (suc n) (suc k) core s = later_alike R (outcome job n (stands core d k)) (outcome job n (stands core e k)) (ends_alike n k core s)
