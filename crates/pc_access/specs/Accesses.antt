@@ -1,5 +1,5 @@
 -- Accesses in their order: the reads and the writes among them, and what the writes leave.
-use Rattle.std.specs.Prelude.{ℕ, List, [], ◌∷◌, filter, Bool, true, false}
+use Rattle.std.specs.Prelude.{ℕ, List, filter, fold, zip, Bool, true, false}
 use Rattle.pc_access.specs.declared.Kind.{Kind}
 use Rattle.pc_access.specs.declared.Kind.TheVariants.{Read, Write}
 use Rattle.pc_access.specs.declared.Access.{Access}
@@ -22,6 +22,4 @@ writes_of xs = filter (λ x. is_write x.kind) xs
 
 -- what these writes leave of a state, one after another, each with its value
 abbrev pub after_writes : {S : Type 0} → (S → Access → ℕ → S) → S → List Access → List ℕ → S
-after_writes write s [] values = s
-after_writes write s (x ∷ xs) [] = s
-after_writes write s (x ∷ xs) (v ∷ values) = after_writes write (write s x v) xs values
+after_writes write s xs values = fold (λ t p. write t p.0 p.1) s (zip xs values)
