@@ -1,16 +1,10 @@
 -- Each instruction of the table takes a cycle at least, and six at most.
-use Rattle.std.proofs.Common.{◌≡◌, ◌≤◌, ℕ, arith, subst, cond, true, false, Bool, ◌==◌}
+use Rattle.std.proofs.Common.{◌≤◌, ℕ, arith, cond, true, false, Bool, ◌==◌}
 use Rattle.sm_words.specs.declared.registers.TheConstants.{PC}
-use Rattle.sm_words.specs.declared.width.Width.{Width}
-use Rattle.sm_words.specs.declared.width.Width.TheVariants.{Byte, Word}
 use Rattle.insn_decode.specs.declared.insn.OneOp.{OneOp}
 use Rattle.insn_decode.specs.declared.insn.OneOp.TheVariants.{Push, Call}
 use Rattle.insn_decode.specs.declared.insn.Operand.{Operand}
 use Rattle.insn_decode.specs.declared.insn.Operand.TheVariants.{Reg, Const, Imm, Indirect, Increment}
-use Rattle.insn_decode.specs.declared.insn.Insn.{Insn}
-use Rattle.insn_decode.specs.declared.insn.Insn.TheVariants.{One}
-use Rattle.insn_decode.specs.Code.{one_fits, HasForm, IsDecoded}
-use Rattle.insn_decode.proofs.FormFacts.{decoded_form}
 use Rattle.cycle_table.specs.Cycles.{by_place, two_cycles, by_operation, one_cycles}
 
 -- what holds of each number of a row holds of the one that is taken
@@ -41,30 +35,16 @@ one_of_three P Push in_place push call a b c = b
 one_of_three P Call in_place push call a b c = c
 one_of_three P _ in_place push call a b c = a
 
+one_rows : (P : ℕ → Type 0) (a : Operand) (op : OneOp) → P 1 → P 3 → P 4 → P 5 → P (one_cycles a op)
+one_rows P (Reg r) op b c e f = one_of_three P op 1 3 4 b c e
+one_rows P (Const n) op b c e f = one_of_three P op 1 3 4 b c e
+one_rows P (Indirect r) op b c e f = one_of_three P op 3 4 4 c e e
+one_rows P (Increment r) op b c e f = one_of_three P op 3 5 5 c f f
+one_rows P (Imm x) op b c e f = one_of_three P op 3 4 5 c e f
+one_rows P _ op b c e f = one_of_three P op 4 5 5 e f f
+
+pub one_least : (a : Operand) (op : OneOp) → 1 ≤ one_cycles a op
+one_least a op = one_rows (λ n. 1 ≤ n) a op (omega arith) (omega arith) (omega arith) (omega arith)
+
 pub one_most : (a : Operand) (op : OneOp) → one_cycles a op ≤ 6
-one_most (Reg r) op = one_of_three (λ n. n ≤ 6) op 1 3 4 (omega arith) (omega arith) (omega arith)
-one_most (Const c) op = one_of_three (λ n. n ≤ 6) op 0 3 4 (omega arith) (omega arith) (omega arith)
-one_most (Indirect r) op = one_of_three (λ n. n ≤ 6) op 3 4 4 (omega arith) (omega arith) (omega arith)
-one_most (Increment r) op = one_of_three (λ n. n ≤ 6) op 3 5 5 (omega arith) (omega arith) (omega arith)
-one_most (Imm x) op = one_of_three (λ n. n ≤ 6) op 0 4 5 (omega arith) (omega arith) (omega arith)
-one_most _ op = one_of_three (λ n. n ≤ 6) op 4 5 5 (omega arith) (omega arith) (omega arith)
-
-pub one_least : (op : OneOp) (w : Width) (a : Operand) → one_fits op w a ≡ true → 1 ≤ one_cycles a op
-one_least Push w (Const c) h = omega arith
-one_least Push w (Imm x) h = omega arith
-one_least Call w (Const c) h = omega arith
-one_least Call w (Imm x) h = omega arith
-one_least op Byte (Const c) h = absurd cc
-one_least op Word (Const c) h = absurd cc
-one_least op Byte (Imm x) h = absurd cc
-one_least op Word (Imm x) h = absurd cc
-one_least op w (Reg r) h = one_of_three (λ n. 1 ≤ n) op 1 3 4 (omega arith) (omega arith) (omega arith)
-one_least op w (Indirect r) h = one_of_three (λ n. 1 ≤ n) op 3 4 4 (omega arith) (omega arith) (omega arith)
-one_least op w (Increment r) h = one_of_three (λ n. 1 ≤ n) op 3 5 5 (omega arith) (omega arith) (omega arith)
-one_least op w _ h = one_of_three (λ n. 1 ≤ n) op 4 5 5 (omega arith) (omega arith) (omega arith)
-
--- of an instruction of format II that some words mean
-pub decoded_least : (insn : Insn) (op : OneOp) (w : Width) (a : Operand) → IsDecoded insn → insn ≡ One op w a → 1 ≤ one_cycles a op
-decoded_least insn op w a d e =
-    let f : HasForm (One op w a) = subst HasForm e (decoded_form insn d) in
-    one_least op w a f.1
+one_most a op = one_rows (λ n. n ≤ 6) a op (omega arith) (omega arith) (omega arith) (omega arith)

@@ -28,13 +28,13 @@ by_operation Push in_place push call = push
 by_operation Call in_place push call = call
 by_operation _ in_place push call = in_place
 
--- its rows, by the operand; 0 where there is no such instruction, and the last row as above
+-- its rows, by the operand: a constant's is that of a register, and the last row as above
 abbrev pub one_cycles : Operand → OneOp → ℕ
 one_cycles (Reg r) op = by_operation op 1 3 4
-one_cycles (Const c) op = by_operation op 0 3 4
+one_cycles (Const c) op = by_operation op 1 3 4
 one_cycles (Indirect r) op = by_operation op 3 4 4
 one_cycles (Increment r) op = by_operation op 3 5 5
-one_cycles (Imm x) op = by_operation op 0 4 5
+one_cycles (Imm x) op = by_operation op 3 4 5
 one_cycles _ op = by_operation op 4 5 5
 
 -- the cycles of an instruction; of a unit instruction those that it takes at least

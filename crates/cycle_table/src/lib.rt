@@ -2,7 +2,7 @@
 #![tactic(auto)]
 
 ghost use Rattle.std.specs.Prelude.{◌≡◌, ◌≤◌, ◌<◌, IsFalse};
-ghost use Rattle.insn_decode.specs.Code.{IsDecoded, is_unit};
+ghost use Rattle.insn_decode.specs.Code.{is_unit};
 ghost use Rattle.cycle_table.specs.Cycles.{cycles_of, by_place, two_cycles, by_operation, one_cycles};
 
 use insn_decode::{Insn, OneOp, Operand};
@@ -13,7 +13,6 @@ use sm_words::PC;
 #[inline(always)]
 #[tactic(auto, unfolding(crate::specs::Cycles::cycles_of))]
 pub fn cycles(insn: &Insn) -> u8
-    requires decoded { IsDecoded insn.now }
     requires no_unit { IsFalse (is_unit insn.now) }
     ensures exact { result ≡ cycles_of insn.now }
     ensures least { 1 ≤ result }
@@ -68,18 +67,18 @@ fn by_operation(op: OneOp, in_place: u8, push: u8, call: u8) -> u8
     }
 }
 
-/// Format II, of this operation on this operand; 0 where there is no such instruction.
-#[tactic(auto, using(crate::proofs::Least::one_most))]
+/// Format II, of this operation on this operand.
+#[tactic(auto, using(crate::proofs::Least::one_least, crate::proofs::Least::one_most))]
 fn one_cycles(arg: Operand, op: OneOp) -> u8
     ensures exact { result ≡ one_cycles arg op }
+    ensures least { 1 ≤ result }
     ensures most { result ≤ 6 }
 {
     match arg {
-        Operand::Reg(_) => by_operation(op, 1, 3, 4),
-        Operand::Const(_) => by_operation(op, 0, 3, 4),
+        Operand::Reg(_) | Operand::Const(_) => by_operation(op, 1, 3, 4),
         Operand::Indirect(_) => by_operation(op, 3, 4, 4),
         Operand::Increment(_) => by_operation(op, 3, 5, 5),
-        Operand::Imm(_) => by_operation(op, 0, 4, 5),
+        Operand::Imm(_) => by_operation(op, 3, 4, 5),
         Operand::Indexed { .. } | Operand::Symbolic(_) | Operand::Absolute(_) => by_operation(
             op, 4, 5, 5,
         ),

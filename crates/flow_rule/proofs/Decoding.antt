@@ -82,10 +82,10 @@ two_fine (Some op) w0 w1 w2 = by (source_of ((w0 / 16) % 4) ((w0 / 256) % 16) w1
     by None h dest = fine_none
     by (Some s) h dest = and_dest s (h s refl) (dest s)
 
--- each instruction of format II in the table takes cycles
-one_cycles_some : (op : OneOp) (w : Width) (a : Operand) → one_fits op w a ≡ true → 0 < cycles_of (One op w a)
+-- each instruction of format II takes cycles
+one_cycles_some : (op : OneOp) (w : Width) (a : Operand) → 0 < cycles_of (One op w a)
 unfolding cycles_of
-one_cycles_some op w a e = one_least op w a e
+one_cycles_some op w a = one_least a op
 
 pub two_cycles_some : (op : TwoOp) (w : Width) (s d : Operand) → 0 < cycles_of (Two op w s d)
 unfolding cycles_of
@@ -100,7 +100,7 @@ one_fine (Some op) w0 w1 = by (source_of ((w0 / 16) % 4) (w0 % 16) w1) (source_g
     by (Some a) h = fits (one_fits op (width_of ((w0 / 64) % 2)) a) refl
       where
         fits : (b : Bool) → one_fits op (width_of ((w0 / 64) % 2)) a ≡ b → Fine (cond b (Some (One op (width_of ((w0 / 64) % 2)) a)) None)
-        fits true e = fine_some (One op (width_of ((w0 / 64) % 2)) a) (h a refl, one_cycles_some op (width_of ((w0 / 64) % 2)) a e)
+        fits true e = fine_some (One op (width_of ((w0 / 64) % 2)) a) (h a refl, one_cycles_some op (width_of ((w0 / 64) % 2)) a)
         fits false e = fine_none
 
 jump_fine : (condition : Option Condition) (w0 : ℕ) → Fine (jump_of condition w0)
