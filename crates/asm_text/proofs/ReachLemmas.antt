@@ -105,7 +105,7 @@ last_keeps m n e f s k = by (newest_section e.sections) refl k
     by_bytes last (Ok bytes) is j = subst (λ (x : Emitted). Keeps e.sections x.sections) (ok_is _ f j) (keeps_set e.sections (length e.sections - 1) (statement_size s) last bytes is)
 
     by : (o : Option SectionValue) → newest_section e.sections ≡ o → in_last m n e o s ≡ Ok f → Keeps e.sections f.sections
-    by None is j = subst (λ (x : Emitted). Keeps e.sections x.sections) (ok_is e f j) (keeps_same e.sections)
+    by None is j = absurd cc
     by (Some last) is j = by_bytes last (statement_bytes m n (length e.sections - 1) last.size s) is j
 
 line_keeps : (m : Meanings) (n : ℕ) (e f : Emitted) (s : Statement ℕ) → emitted m n e s ≡ Ok f → Keeps e.sections f.sections

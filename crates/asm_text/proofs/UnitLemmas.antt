@@ -245,7 +245,7 @@ tied_last m symbols lines n e f s has t goes = by (newest_section e.sections) re
         })
 
     by : (o : Option SectionValue) → newest_section e.sections ≡ o → in_last m n e o s ≡ Ok f → IsTied symbols (lines + 1) f
-    by None is k = subst (IsTied symbols (lines + 1)) (ok_is e f k) (record { tied = t.tied; few = let few = t.few in omega arith })
+    by None is k = absurd cc
     by (Some last) is k = by_bytes last (statement_bytes m n (length e.sections - 1) last.size s) is k
 
 tied_more : (m : Meanings) (symbols lines n : ℕ) (e f : Emitted) (s : Statement ℕ) → HasSymbols m symbols → IsTied symbols lines e → emitted m n e s ≡ Ok f → IsTied symbols (lines + 1) f

@@ -12,7 +12,7 @@ use Rattle.asm_text.specs.declared.statement.Field.TheVariants.{Number, Name}
 use Rattle.asm_text.specs.declared.statement.Statement.{Statement}
 use Rattle.asm_text.specs.declared.statement.Statement.TheVariants.{Section, Label, Global, Word, Jump, Code}
 use Rattle.asm_text.specs.declared.unit.AsmFault.{AsmFault}
-use Rattle.asm_text.specs.declared.unit.AsmFault.TheVariants.{NoLabel, Far}
+use Rattle.asm_text.specs.declared.unit.AsmFault.TheVariants.{Place, NoLabel, Far}
 use Rattle.asm_text.specs.declared.unit.AsmRelocation.{AsmRelocation}
 use Rattle.asm_text.specs.declared.unit.SectionKind.{SectionKind}
 use Rattle.asm_text.specs.Encoding.{code_bytes}
@@ -105,8 +105,9 @@ with_statement m e last s given = unrefused given (λ bytes. Ok (record {
   relocations = e.relocations ++ statement_relocations m (length e.sections - 1) last.size s;
 }))
 
+-- where there is no section the statement is refused, as where it is placed
 abbrev pub in_last : Meanings → ℕ → Emitted → Option SectionValue → Statement ℕ → Result Emitted AsmFault
-in_last m n e None s = Ok e
+in_last m n e None s = Err (Place n)
 in_last m n e (Some last) s = with_statement m e last s (statement_bytes m n (length e.sections - 1) last.size s)
 
 -- the first bytes of a section

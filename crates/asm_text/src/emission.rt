@@ -301,7 +301,7 @@ impl Emission {
             (newest_section (emitted_of self.old).sections) statement ≡ Err fault) }
     {
         let Some(last) = self.sections.len().checked_sub(1) else {
-            return Ok(());
+            return Err(AsmFault::Place { n });
         };
         let here = self.sections[last].size;
         let bytes = match statement_bytes(meanings, n, last, here, statement) {
