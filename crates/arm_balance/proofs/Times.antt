@@ -11,7 +11,7 @@ use Rattle.cycle_table.specs.Cycles.{cycles_of}
 use Rattle.mod_layout.specs.declared.Section.{Section}
 use Rattle.mod_layout.specs.Table.{holds}
 use Rattle.arm_balance.specs.Met.{met}
-use Rattle.arm_balance.specs.Balance.{not_pc, ends_by, arm_next, arm_on, met_cycles, with_rest, time_on, time_from, time_of}
+use Rattle.arm_balance.specs.Balance.{not_pc, ends_by, arm_next, arm_on, with_rest, time_on, time_from, time_of}
 
 -- ---- where an arm goes on
 
@@ -86,17 +86,23 @@ enough s text join (suc f) (suc g) pc a b c d =
     Same : Type 0
     Same = (next : ℕ) → join < f + next → join < g + next → 0 < f → 0 < g → time_from s text join f next ≡ time_from s text join g next
 
-    by_next : Same → (o : Option ℕ) → arm_on s text join pc ≡ o → time_on o (met_cycles (met s text pc)) (time_from s text join f) pc ≡ time_on o (met_cycles (met s text pc)) (time_from s text join g) pc
+    by_met : (next : ℕ) → time_from s text join f next ≡ time_from s text join g next → (o : Option Insn) →
+        time_on (Some next) o (time_from s text join f) pc ≡ time_on (Some next) o (time_from s text join g) pc
+    by_met next e None = refl
+    by_met next e (Some insn) = ap (with_rest (cycles_of insn)) e
+
+    by_next : Same → (o : Option ℕ) → arm_on s text join pc ≡ o →
+        time_on o (met s text pc) (time_from s text join f) pc ≡ time_on o (met s text pc) (time_from s text join g) pc
     by_next same None e = refl
     by_next same (Some next) e =
         let u = on_up s text join pc next e in
         let v : pc < next = u.0 in
         let w : next ≤ join = u.1 in
-        ap (with_rest (met_cycles (met s text pc))) (same next (omega arith) (omega arith) (omega arith) (omega arith))
+        by_met next (same next (omega arith) (omega arith) (omega arith) (omega arith)) (met s text pc)
 
     by_here : (t : Bool) → Same →
-        cond t (Ok 0) (time_on (arm_on s text join pc) (met_cycles (met s text pc)) (time_from s text join f) pc)
-        ≡ cond t (Ok 0) (time_on (arm_on s text join pc) (met_cycles (met s text pc)) (time_from s text join g) pc)
+        cond t (Ok 0) (time_on (arm_on s text join pc) (met s text pc) (time_from s text join f) pc)
+        ≡ cond t (Ok 0) (time_on (arm_on s text join pc) (met s text pc) (time_from s text join g) pc)
     by_here true same = refl
     by_here false same = by_next same (arm_on s text join pc) refl
 enough s text join _ _ pc a b c d = absurd (omega arith)
@@ -113,13 +119,13 @@ with_more n k (Err a) = refl
 
 pub time_ends : (s : Section) (text : List ℕ) (join : ℕ) → time_of s text join join ≡ Ok 0
 unfolding time_of
-time_ends s text join = ap (λ b. cond b (Ok 0) (time_on (arm_on s text join join) (met_cycles (met s text join)) (time_from s text join join) join)) (eq-eqb join join refl)
+time_ends s text join = ap (λ b. cond b (Ok 0) (time_on (arm_on s text join join) (met s text join) (time_from s text join join) join)) (eq-eqb join join refl)
 
-away : (s : Section) (text : List ℕ) (join pc : ℕ) (o : Option ℕ) → pc ≢ join → arm_on s text join pc ≡ o → time_of s text pc join ≡ time_on o (met_cycles (met s text pc)) (time_from s text join join) pc
+away : (s : Section) (text : List ℕ) (join pc : ℕ) (o : Option ℕ) → pc ≢ join → arm_on s text join pc ≡ o → time_of s text pc join ≡ time_on o (met s text pc) (time_from s text join join) pc
 unfolding time_of
 away s text join pc o ne e =
-    ap (λ b. cond b (Ok 0) (time_on (arm_on s text join pc) (met_cycles (met s text pc)) (time_from s text join join) pc)) (let f : (pc == join) ≡ false = grind (arith, nat_tests) in f)
-    ∙ ap (λ o. time_on o (met_cycles (met s text pc)) (time_from s text join join) pc) e
+    ap (λ b. cond b (Ok 0) (time_on (arm_on s text join pc) (met s text pc) (time_from s text join join) pc)) (let f : (pc == join) ≡ false = grind (arith, nat_tests) in f)
+    ∙ ap (λ o. time_on o (met s text pc) (time_from s text join join) pc) e
 
 pub time_stops : (s : Section) (text : List ℕ) (join pc total : ℕ) (r : Result ℕ ℕ) → r ≡ with_rest total (time_of s text pc join) → pc ≢ join → arm_on s text join pc ≡ None → Err pc ≡ r
 time_stops s text join pc total r e ne on = sym (e ∙ ap (with_rest total) (away s text join pc None ne on))
@@ -131,7 +137,7 @@ time_step s text join pc next total insn r e ne on it =
     let u = on_up s text join pc next on in
     let v : pc < next = u.0 in
     let w : next ≤ join = u.1 in
-    e ∙ ap (with_rest total) (away s text join pc (Some next) ne on ∙ ap (λ o. with_rest (met_cycles o) (time_from s text join join next)) it)
+    e ∙ ap (with_rest total) (away s text join pc (Some next) ne on ∙ ap (λ o. time_on (Some next) o (time_from s text join join) pc) it)
     ∙ with_more total (cycles_of insn) (time_from s text join join next)
     ∙ ap (with_rest (total + cycles_of insn)) (enough s text join join (suc join) next (omega arith) (omega arith) (omega arith) (omega arith))
 

@@ -35,24 +35,20 @@ arm_next join pc (Some insn) = None
 abbrev pub arm_on : Section → List ℕ → ℕ → ℕ → Option ℕ
 arm_on s text join pc = if holds s pc && nat_lt pc join then arm_next join pc (met s text pc) else None
 
-abbrev pub met_cycles : Option Insn → ℕ
-met_cycles None = 0
-met_cycles (Some insn) = cycles_of insn
-
 -- an instruction's cycles, and those of the rest
 abbrev pub with_rest : ℕ → Result ℕ ℕ → Result ℕ ℕ
 with_rest n (Ok t) = Ok (n + t)
 with_rest n (Err a) = Err a
 
-abbrev pub time_on : Option ℕ → ℕ → (ℕ → Result ℕ ℕ) → ℕ → Result ℕ ℕ
-time_on None n rest pc = Err pc
-time_on (Some next) n rest pc = with_rest n (rest next)
+abbrev pub time_on : Option ℕ → Option Insn → (ℕ → Result ℕ ℕ) → ℕ → Result ℕ ℕ
+time_on (Some next) (Some insn) rest pc = with_rest (cycles_of insn) (rest next)
+time_on _ _ rest pc = Err pc
 
 -- the cycles from pc to the join, or the address of the first instruction that is none of an arm, in so many steps
 abbrev pub time_from : Section → List ℕ → ℕ → ℕ → ℕ → Result ℕ ℕ
 time_from s text join zero pc = Err pc
 time_from s text join (suc steps) pc =
-    if pc == join then Ok 0 else time_on (arm_on s text join pc) (met_cycles (met s text pc)) (time_from s text join steps) pc
+    if pc == join then Ok 0 else time_on (arm_on s text join pc) (met s text pc) (time_from s text join steps) pc
 
 -- each step goes up, so an arm has no more steps than its join has addresses below it
 unfoldable pub time_of : Section → List ℕ → ℕ → ℕ → Result ℕ ℕ

@@ -5,7 +5,7 @@ ghost use Rattle.std.specs.Prelude.{MatchResult, Ok, Err};
 ghost use Rattle.sm_words.specs.Words.{add16};
 ghost use Rattle.insn_decode.specs.Code.{IsDecoded, is_unit, distance};
 ghost use Rattle.arm_balance.specs.Met.{met};
-ghost use Rattle.arm_balance.specs.Balance.{not_pc, arm_next, arm_on, met_cycles, time_of};
+ghost use Rattle.arm_balance.specs.Balance.{not_pc, arm_next, arm_on, time_of};
 
 use crate::text::met;
 use cycle_table::cycles;

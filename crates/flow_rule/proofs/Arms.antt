@@ -41,8 +41,8 @@ use Rattle.flow_rule.proofs.Plans.{none_left, none_right, none_if}
 use Rattle.arm_balance.specs.declared.Arm.{Arm}
 use Rattle.flow_rule.specs.Arms.{stepped_regs, written_reg, written_regs, clobbered_core, Walk, Meets, Stops, clobbered_by, walked, walk_on, walk, arm_start, arm_violations, step_arm, step_branch, step_arms_by, step_arms}
 use Rattle.arm_balance.specs.Met.{met}
-use Rattle.arm_balance.specs.Balance.{arm_next, met_cycles}
-use Rattle.flow_rule.proofs.Walks.{met_regs, met_words, MeetsJoin, time_to, walk_regs, walk_words, with_met, is_met, met_rest, on_time}
+use Rattle.arm_balance.specs.Balance.{arm_next}
+use Rattle.flow_rule.proofs.Walks.{met_cycles, met_regs, met_words, MeetsJoin, time_to, walk_regs, walk_words, with_met, is_met, met_rest, on_time}
 use Rattle.flow_rule.proofs.Words.{NotIn, word, Shape, IsData, AgreeData}
 use Rattle.flow_rule.proofs.Runs.{at_rest, Passes, Stays, Crossing, Standing}
 use Rattle.flow_rule.proofs.Instruction.{always_jumps, AgreeAt, Single, Here, Gone, after, does_it, jump_so, past_pc, Parts, plain_parts, plain_kept, two_alike, one_alike, way_agrees, way_single, way_val, fetched}

@@ -3,12 +3,16 @@ use Rattle.std.proofs.Common.{◌≡◌, ℕ, ◌+◌, ◌==◌, List, [], ◌++
 use Rattle.std.proofs.lemmas.Bool.Decides.{nat_tests}
 use Rattle.insn_decode.specs.declared.insn.Insn.{Insn}
 use Rattle.mod_layout.specs.declared.Module.{Module}
-use Rattle.arm_balance.specs.Balance.{met_cycles}
+use Rattle.cycle_table.specs.Cycles.{cycles_of}
 use Rattle.flow_rule.specs.declared.Reason.TheVariants.{ArmTime}
 use Rattle.flow_rule.specs.Rounds.{Point}
 use Rattle.flow_rule.specs.Does.{plan_val, write_reaches}
 use Rattle.flow_rule.specs.Violations.{violation_if}
 use Rattle.flow_rule.specs.Arms.{written_regs, written_words, Walk, Meets, Stops, walked, arm_violations}
+
+abbrev pub met_cycles : Option Insn → ℕ
+met_cycles None = 0
+met_cycles (Some insn) = cycles_of insn
 
 abbrev pub met_regs : Option Insn → List ℕ
 met_regs None = []
