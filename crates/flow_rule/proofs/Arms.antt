@@ -353,7 +353,7 @@ module _ (terms : Terms) (key : List ℕ) (m : Module) (text : List ℕ) (caller
             subst (λ z. Alone z mv.core mv.data_left) e (record { pc = at1.pc_a; core = at1.core; words = at1.words }) in
             let rest = walk S m text join fuel y in
             let on_join = met_rest (met_at x) m x rest meets in
-            subst (λ z. Walked z join c d) (sym (is_met (met_at x) m x rest))
+            subst (λ z. Walked z join c d) (sym (is_met (met_at x) m x rest meets))
             (joined rest on_join (go y mv.core mv.data_left al on_join))
           where
             first_of_points : List Point → Point

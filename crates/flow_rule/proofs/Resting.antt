@@ -20,7 +20,7 @@ use Rattle.cpu_step.specs.Fetched.{insn_at, later_word, word_in, insn_from}
 use Rattle.arm_balance.specs.declared.Arm.{Arm}
 use Rattle.arm_balance.specs.Met.{text_byte, met}
 use Rattle.arm_balance.specs.Balance.{arm_next, arm_on}
-use Rattle.flow_rule.proofs.Walks.{met_words, MeetsJoin, with_met, is_met, met_rest, on_time}
+use Rattle.flow_rule.proofs.Walks.{met_words, MeetsJoin, met_rest, on_time, walked_alike}
 use Rattle.flow_rule.specs.Terms.{Terms}
 use Rattle.flow_rule.specs.declared.Val.{Val}
 use Rattle.flow_rule.specs.declared.Val.TheVariants.{Known, Secret}
@@ -351,9 +351,7 @@ module _ (terms : Terms) (m : Module) (text : List ℕ) where
             l.none
             ∙ ap (λ gs. further fuel next (record { violations = []; gives = gs }) (point pc q low)) l.to_z
             ∙ ap (walked it m (point pc q low)) (go y l.z near (met_rest it m (point pc r top) (onward fuel y) meets))
-            ∙ is_met it m (point pc q low) (onward fuel y)
-            ∙ ap (λ ws. with_met it ws (onward fuel y)) (k.same_words r q)
-            ∙ sym (is_met it m (point pc r top) (onward fuel y))
+            ∙ walked_alike it m (point pc q low) (point pc r top) (onward fuel y) refl (k.same_words r q)
 
     -- a step more, by whether the join is here and by where an instruction of an arm goes on
     abbrev onward_by : ℕ → Bool → Option ℕ → Point → Walk

@@ -45,13 +45,19 @@ abbrev pub with_met : Option Insn → List ℕ → Walk → Walk
 with_met o ws (Meets cycles regs words) = Meets (met_cycles o + cycles) (met_regs o ++ regs) (ws ++ words)
 with_met o ws (Stops addr) = Stops addr
 
-pub is_met : (o : Option Insn) (m : Module) (x : Point) (rest : Walk) →
+pub is_met : (o : Option Insn) (m : Module) (x : Point) (rest : Walk) → MeetsJoin (walked o m x rest) →
     walked o m x rest ≡ with_met o (met_words o m x) rest
-is_met None m x (Meets cycles regs words) =
-    ap (λ n. Meets n regs words) (let e : cycles ≡ 0 + cycles = omega arith in e)
-is_met (Some insn) m x (Meets cycles regs words) = refl
-is_met None m x (Stops addr) = refl
-is_met (Some insn) m x (Stops addr) = refl
+is_met None m x rest meets = absurd meets
+is_met (Some insn) m x (Meets cycles regs words) meets = refl
+is_met (Some insn) m x (Stops addr) meets = refl
+
+-- from two points at one address, where the same words are written
+pub walked_alike : (o : Option Insn) (m : Module) (x z : Point) (rest : Walk) → x.pair.addr ≡ z.pair.addr →
+    met_words o m x ≡ met_words o m z → walked o m x rest ≡ walked o m z rest
+walked_alike None m x z rest addr same = ap (λ a. Stops a) addr
+walked_alike (Some insn) m x z (Meets cycles regs words) addr same =
+    ap (λ ws. Meets (cycles_of insn + cycles) (written_regs insn ++ regs) (ws ++ words)) same
+walked_alike (Some insn) m x z (Stops a) addr same = refl
 
 -- the rest comes to the join too
 pub met_rest : (o : Option Insn) (m : Module) (x : Point) (rest : Walk) → MeetsJoin (walked o m x rest) → MeetsJoin rest

@@ -62,9 +62,9 @@ clobbered_by (Meets cycles regs words) l =
     record { core = clobbered_core regs l.core; words = set_each words Secret l.words }
 clobbered_by (Stops addr) l = l
 
--- an instruction of an arm, and the rest of it
+-- an instruction of an arm, and the rest of it; where none is met the arm stops
 abbrev pub walked : Option Insn → Module → Point → Walk → Walk
-walked None m x rest = rest
+walked None m x rest = Stops x.pair.addr
 walked (Some insn) m x (Stops addr) = Stops addr
 walked (Some insn) m x (Meets cycles regs words) =
     let ws = written_words m (write_reaches (plan_val insn x.pair.addr x.label.core)) in
