@@ -1,5 +1,5 @@
 -- What commands are answered, and why they are refused.
-use Rattle.std.proofs.Common.{◌≡◌, false, ℕ, List, [], ◌∷◌, ◌++◌, map, Option, Some, None, Result, Ok, Err, inl, inr, refl, sym, ◌∙◌, ap, subst}
+use Rattle.std.proofs.Common.{◌≡◌, false, ℕ, List, [], ◌∷◌, ◌++◌, map, Option, Some, None, Result, Ok, Err, inl, inr, refl, sym, ◌∙◌, ap, ap₂, subst}
 use Rattle.sm_io.specs.Faults.{HasCause}
 use Rattle.sm_io.specs.Files.{FileMap}
 use Rattle.sm_io.specs.Sink.{Took, CutOff, Puts}
@@ -12,7 +12,7 @@ use Rattle.link_symbols.specs.declared.fault.LinkFault.{LinkFault}
 use Rattle.linker.specs.Image.{linked_image}
 use Rattle.linker.specs.Refusals.{link_fault_of}
 use Rattle.cli_files.specs.Causes.{IsNeedCause}
-use Rattle.cli_files.specs.Files.{need, a_layout, a_schedule, an_image, Holds, HoldAll, image_file, IsScheduleOf, layout_file, object_needs, schedule_file, Need, schedule_needs, Held, an_object}
+use Rattle.cli_files.specs.Files.{need, a_layout, a_schedule, an_image, Holds, HoldAll, image_file, IsScheduleOf, layout_file, object_file, object_needs, schedule_file, Need, schedule_needs, Held, an_object}
 use Rattle.cli_files.specs.StatusNumbers.{status_after}
 use Rattle.cli_files.specs.SymbolNames.{symbol_name}
 use Rattle.cli_files.specs.Unlinked.{IsUnlinked}
@@ -20,9 +20,9 @@ use Rattle.cli_files.specs.declared.answers.Refusal.{Refusal}
 use Rattle.cli_files.specs.declared.answers.Refusal.TheVariants as refusal
 use Rattle.cli_files.specs.declared.answers.Status.{Status}
 use Rattle.cli_files.specs.declared.answers.Status.TheVariants as status
-use Rattle.cli_calls.specs.Command.{Command, Answer, done, gives, runs, Comes, IsAnswer, Outcome, refuses, trace_answer}
+use Rattle.cli_calls.specs.Command.{Command, Answer, done, gives, runs, Comes, IsAnswer, Outcome, nothing, refuses, trace_answer}
 use Rattle.cli_calls.specs.ImageRuns.{image_run_command}
-use Rattle.cli_calls.specs.Linking.{objects_command, objects_in, linked, linked_by, text_linked}
+use Rattle.cli_calls.specs.Linking.{objects_command, with_objects, linked, linked_by, text_linked}
 use Rattle.cli_calls.specs.Runs.{IsCommandCause, EndsAs, IsRun}
 
 -- what a command gives is its answer
@@ -58,28 +58,62 @@ image_run_comes files told name (Some own) cycles value entries h s = record { h
 
 -- Objects
 
-pub objects_of_helds : (objects : List ObjectValue) → objects_in (map an_object objects) ≡ objects
-objects_of_helds [] = refl
-objects_of_helds (object ∷ more) = ap (λ (l : List ObjectValue). object ∷ l) (objects_of_helds more)
+-- the outcome of files that hold these objects
+pub with_these : (outcome : List ObjectValue → Outcome) (objects : List ObjectValue)
+    → with_objects outcome (map an_object objects) ≡ outcome objects
+with_these outcome [] = refl
+with_these outcome (object ∷ more) = with_these (λ objects. outcome (object ∷ objects)) more
+
+-- files that are needed as objects hold objects
+module _ (files : Option FileMap) where
+  object_of : (name : List ℕ) (held : Held) → Holds files (need name object_file) held
+      → (object : ObjectValue) × (held ≡ an_object object)
+  object_of name (an_object object) h = (object, refl)
+  object_of name _ h = absurd h.is
+
+  pub objects_of : (names : List (List ℕ)) (helds : List Held) → HoldAll files (object_needs names) helds
+      → (objects : List ObjectValue) × (helds ≡ map an_object objects)
+  objects_of [] [] h = ([], refl)
+  objects_of [] (x ∷ xs) h = absurd h
+  objects_of (name ∷ names) [] h = absurd h
+  objects_of (name ∷ names) (x ∷ xs) h =
+      let object = object_of name x h.0 in
+      let more = objects_of names xs h.1 in
+      (object.0 ∷ more.0, ap₂ (λ (y : Held) (ys : List Held). y ∷ ys) object.1 more.1)
+
+  -- so what comes of them is the outcome of some objects
+  pub some_objects : (outcome : List ObjectValue → Outcome) (names : List (List ℕ)) (helds : List Held)
+      → HoldAll files (object_needs names) helds → ((objects : List ObjectValue) → outcome objects ≡ nothing → ⊥)
+      → with_objects outcome helds ≡ nothing → ⊥
+  some_objects outcome names helds h some e =
+      let objects = objects_of names helds h in
+      some objects.0 (sym (ap (with_objects outcome) objects.1 ∙ with_these outcome objects.0) ∙ e)
 
 module _ (layout : LayoutValue) (objects : List ObjectValue) (outcome : Image → Outcome) where
   -- objects that link come to what their image comes to
-  pub linked_gives : link_fault_of layout objects ≡ None → linked layout (objects_in (map an_object objects)) outcome ≡ outcome (linked_image layout objects)
-  linked_gives e = ap (λ (l : List ObjectValue). linked layout l outcome) (objects_of_helds objects) ∙ ap (linked_by layout objects outcome) e
+  pub linked_gives : link_fault_of layout objects ≡ None
+      → with_objects (λ l. linked layout l outcome) (map an_object objects) ≡ outcome (linked_image layout objects)
+  linked_gives e = with_these (λ l. linked layout l outcome) objects ∙ ap (linked_by layout objects outcome) e
 
   -- and others to a refusal
-  pub linked_refuses : (fault : LinkFault) → link_fault_of layout objects ≡ Some fault → linked layout (objects_in (map an_object objects)) outcome ≡ refuses fault (symbol_name layout objects fault)
-  linked_refuses fault e = ap (λ (l : List ObjectValue). linked layout l outcome) (objects_of_helds objects) ∙ ap (linked_by layout objects outcome) e
+  pub linked_refuses : (fault : LinkFault) → link_fault_of layout objects ≡ Some fault
+      → with_objects (λ l. linked layout l outcome) (map an_object objects)
+      ≡ refuses fault (symbol_name layout objects fault)
+  linked_refuses fault e = with_these (λ l. linked layout l outcome) objects ∙ ap (linked_by layout objects outcome) e
 
 -- the same of a text that is written of the layout and the objects
 pub text_given : (layout : LayoutValue) (objects : List ObjectValue) (text : LayoutValue → List ObjectValue → List ℕ) (fault : Option LinkFault) → link_fault_of layout objects ≡ fault
-    → text_linked text layout (objects_in (map an_object objects)) ≡ linked_by layout objects (λ image. done (text layout objects)) fault
-text_given layout objects text fault e = ap (text_linked text layout) (objects_of_helds objects) ∙ ap (linked_by layout objects (λ image. done (text layout objects))) e
+    → with_objects (text_linked text layout) (map an_object objects)
+    ≡ linked_by layout objects (λ image. done (text layout objects)) fault
+text_given layout objects text fault e =
+    with_these (text_linked text layout) objects
+    ∙ ap (linked_by layout objects (λ image. done (text layout objects))) e
 
 -- what comes of a layout and objects
 pub objects_comes : (files : Option FileMap) (text : LayoutValue → List ObjectValue → List ℕ) (name : List ℕ) (names : List (List ℕ)) (layout : LayoutValue) (objects : List ObjectValue) (outcome : Outcome)
     → Holds files (need name layout_file) (a_layout layout) → HoldAll files (object_needs names) (map an_object objects)
-    → text_linked text layout (objects_in (map an_object objects)) ≡ outcome → Comes files (objects_command text name names) outcome
+    → with_objects (text_linked text layout) (map an_object objects) ≡ outcome
+    → Comes files (objects_command text name names) outcome
 objects_comes files text name names layout objects outcome h hs e = record { helds = a_layout layout ∷ map an_object objects; hold = (h, hs); is = e }
 
 -- Refusals

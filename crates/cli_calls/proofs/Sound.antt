@@ -12,10 +12,11 @@ use Rattle.linker.specs.Refusals.{link_fault_of}
 use Rattle.cli_files.specs.Files.{Held, a_layout, a_schedule, an_image, HoldAll}
 use Rattle.cli_calls.specs.Command.{Command, Outcome, Comes, done, nothing}
 use Rattle.cli_calls.specs.ImageRuns.{image_run_command, read_image_run, with_schedule}
-use Rattle.cli_calls.specs.Linking.{linked_by, objects_command, objects_in, read_objects}
+use Rattle.cli_calls.specs.Linking.{linked_by, objects_command, read_objects, text_linked}
 use Rattle.cli_calls.specs.CommandNames.{NamedCommand, command_by, command_of}
 use Rattle.cli_calls.specs.Values.{read_cycles, file_named}
 use Rattle.cli_calls.specs.Words.{Text, values_within}
+use Rattle.cli_calls.proofs.Given.{some_objects}
 
 -- what files that serve the command hold comes to something
 abbrev pub Sound : Command → Type 0
@@ -31,11 +32,12 @@ some_linked layout objects outcome (Some fault) s e = cc
 sound_objects : (text : LayoutValue → List ObjectValue → List ℕ) (layout : Text) (objects : List Text) → Sound (objects_command text layout objects)
 sound_objects text name objects map [] h e = h
 sound_objects text name objects map (a_layout layout ∷ more) h e =
-    some_linked layout (objects_in more) (λ image. done (text layout (objects_in more))) (link_fault_of layout (objects_in more)) (λ image e. cc) e
+    some_objects (Some map) (text_linked text layout) objects more h.1
+    (λ own. some_linked layout own (λ image. done (text layout own)) (link_fault_of layout own) (λ image e. cc)) e
 sound_objects text name objects map (held ∷ more) h e = h.0.is
 
 -- an outcome by a schedule's entries is something, with a schedule and with none
-pub some_scheduled : (outcome : List Entry → List Held → Outcome) (helds : List Held)
+some_scheduled : (outcome : List Entry → List Held → Outcome) (helds : List Held)
     → ((entries : List Entry) (more : List Held) → outcome entries more ≡ nothing → ⊥)
     → with_schedule outcome helds ≡ nothing → ⊥
 some_scheduled outcome [] s e = s [] [] e

@@ -11,10 +11,11 @@ use Rattle.cli_files.specs.SymbolNames.{symbol_name}
 use Rattle.cli_calls.specs.Command.{Command, Outcome, done, nothing, refuses}
 use Rattle.cli_calls.specs.Words.{Text}
 
--- the objects among what files hold
-abbrev pub objects_in : List Held → List ObjectValue
-objects_in (an_object object ∷ more) = object ∷ objects_in more
-objects_in _ = []
+-- an outcome by the objects that files hold
+abbrev pub with_objects : (List ObjectValue → Outcome) → List Held → Outcome
+with_objects outcome [] = outcome []
+with_objects outcome (an_object object ∷ more) = with_objects (λ objects. outcome (object ∷ objects)) more
+with_objects outcome _ = nothing
 
 abbrev pub linked_by : LayoutValue → List ObjectValue → (Image → Outcome) → Option LinkFault → Outcome
 linked_by layout objects outcome None = outcome (linked_image layout objects)
@@ -30,7 +31,7 @@ abbrev pub text_linked : (LayoutValue → List ObjectValue → List ℕ) → Lay
 text_linked text layout objects = linked layout objects (λ image. done (text layout objects))
 
 abbrev pub objects_outcome : (LayoutValue → List ObjectValue → List ℕ) → List Held → Outcome
-objects_outcome text (a_layout layout ∷ objects) = text_linked text layout (objects_in objects)
+objects_outcome text (a_layout layout ∷ more) = with_objects (text_linked text layout) more
 objects_outcome text _ = nothing
 
 abbrev pub objects_command : (LayoutValue → List ObjectValue → List ℕ) → Text → List Text → Command

@@ -20,7 +20,7 @@ use Rattle.written_machine.specs.Peers.{DifferInData, Peers}
 use Rattle.written_machine.specs.View.{View, view_of}
 use Rattle.isolation.specs.Laws.{SameTraces, SameViews}
 use Rattle.peer_rows.specs.Laws.{AcceptedArePeers}
-use Rattle.cli_files.specs.Files.{Held, an_image, a_schedule, a_layout, an_object, layout_file, object_file, image_file, need, object_needs, schedule_needs, Holds, HoldAll, IsScheduleOf}
+use Rattle.cli_files.specs.Files.{Held, an_image, a_schedule, a_layout, an_object, layout_file, image_file, need, object_needs, schedule_needs, Holds, HoldAll, IsScheduleOf}
 use Rattle.cli_calls.specs.Command.{Answer, Answers, IsAnswer, done, run_status, runs, trace_answer}
 use Rattle.sm_cli.specs.ImageCommand.{image_command}
 use Rattle.sm_cli.specs.Joins.{AreFiles, IsLinkedText, SaysYes, RunsAlike}
@@ -31,7 +31,7 @@ use Rattle.sm_cli.proofs.Checking.{check_accepted, balance_accepted}
 use Rattle.sm_cli.proofs.KeyBytes.{key_bytes}
 use Rattle.cli_calls.proofs.Outcomes.{one_answer}
 use Rattle.sm_cli.proofs.Running.{linked_runs}
-use Rattle.cli_calls.proofs.Given.{image_run_comes, objects_of_helds, runs_answer}
+use Rattle.cli_calls.proofs.Given.{image_run_comes, objects_of, runs_answer, with_these}
 use Rattle.sm_cli.proofs.ShortText.{short_text}
 
 module _ (files : FileMap) (layout_name : List ℕ) (names : List (List ℕ)) where
@@ -45,19 +45,6 @@ module _ (files : FileMap) (layout_name : List ℕ) (names : List (List ℕ)) wh
     links : link_fault_of layout objects ≡ None
     text : written ≡ text_answer (linked_image layout objects)
 
-  object_of : (name : List ℕ) (held : Held) → Holds (Some files) (need name object_file) held → (object : ObjectValue) × (held ≡ an_object object)
-  object_of name (an_object object) h = (object, refl)
-  object_of name _ h = absurd h.is
-
-  objects_of : (names : List (List ℕ)) (helds : List Held) → HoldAll (Some files) (object_needs names) helds → (objects : List ObjectValue) × (helds ≡ map an_object objects)
-  objects_of [] [] h = ([], refl)
-  objects_of [] (x ∷ xs) h = absurd h
-  objects_of (name ∷ names) [] h = absurd h
-  objects_of (name ∷ names) (x ∷ xs) h =
-      let object = object_of name x h.0 in
-      let more = objects_of names xs h.1 in
-      (object.0 ∷ more.0, ap₂ (λ (y : Held) (ys : List Held). y ∷ ys) object.1 more.1)
-
   read_of : (written : Answer) → IsAnswer (Some files) (link_command layout_name names) written → Read written
   read_of written a = by a.comes.helds a.comes.hold (subst (λ o. Answers o written) (sym a.comes.is) a.is)
     where
@@ -69,8 +56,8 @@ module _ (files : FileMap) (layout_name : List ℕ) (names : List (List ℕ)) wh
       by : (helds : List Held) → HoldAll (Some files) (need layout_name layout_file ∷ object_needs names) helds → Answers (objects_outcome linked_image_text helds) written → Read written
       by [] h told = absurd h
       by (a_layout layout ∷ helds) h told =
-          let objects = objects_of names helds h.1 in
-          let outcome = ap (λ (l : List Held). objects_outcome linked_image_text (a_layout layout ∷ l)) objects.1 ∙ ap (text_linked linked_image_text layout) (objects_of_helds objects.0) in
+          let objects = objects_of (Some files) names helds h.1 in
+          let outcome = ap (λ (l : List Held). objects_outcome linked_image_text (a_layout layout ∷ l)) objects.1 ∙ with_these (text_linked linked_image_text layout) objects.0 in
           linked_as layout objects.0 (link_fault_of layout objects.0) refl (subst (λ o. Answers o written) outcome told) h.0 (subst (λ l. HoldAll (Some files) (object_needs names) l) objects.1 h.1)
       by (held ∷ helds) h told = absurd h.0.is
 

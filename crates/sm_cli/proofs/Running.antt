@@ -11,7 +11,7 @@ use Rattle.written_machine.specs.declared.ScriptLine.{ScriptLine}
 use Rattle.cli_files.specs.Files.{image_file, need, an_image, a_schedule, a_script, Holds, IsScheduleOf, script_file, layout_file, object_needs, a_layout, an_object, Held, HoldAll}
 use Rattle.cli_calls.specs.Command.{gives, runs, Comes, Outcome}
 use Rattle.cli_calls.specs.ImageRuns.{with_schedule}
-use Rattle.cli_calls.specs.Linking.{objects_in, linked}
+use Rattle.cli_calls.specs.Linking.{with_objects, linked}
 use Rattle.cli_calls.proofs.Given.{linked_gives}
 use Rattle.sm_cli.specs.MonitorCommand.{monitor_command, script_answer}
 use Rattle.sm_cli.specs.RunCommand.{run_command}
@@ -26,7 +26,7 @@ monitor_comes files name (Some own) script_name value entries script h s k =
     record { helds = an_image value ∷ a_schedule entries ∷ a_script script ∷ []; hold = (h, (s, (k, tt))); is = refl }
 
 -- objects are no schedule
-objects_unscheduled : (outcome : List Entry → List Held → Outcome) (objects : List ObjectValue)
+pub objects_unscheduled : (outcome : List Entry → List Held → Outcome) (objects : List ObjectValue)
     → with_schedule outcome (map an_object objects) ≡ outcome [] (map an_object objects)
 objects_unscheduled outcome [] = refl
 objects_unscheduled outcome (object ∷ more) = refl
@@ -34,11 +34,12 @@ objects_unscheduled outcome (object ∷ more) = refl
 module _ (files : Option FileMap) (name : List ℕ) (names : List (List ℕ)) (layout : LayoutValue) (objects : List ObjectValue) where
   -- what comes of a layout, a schedule and objects
   pub run_comes : (schedule : Option (List ℕ)) (cycles : ℕ) (entries : List Entry) (outcome : Outcome) → Holds files (need name layout_file) (a_layout layout) → IsScheduleOf files schedule entries
-      → HoldAll files (object_needs names) (map an_object objects) → linked layout (objects_in (map an_object objects)) (λ image. runs image entries cycles) ≡ outcome
+      → HoldAll files (object_needs names) (map an_object objects)
+      → with_objects (λ l. linked layout l (λ image. runs image entries cycles)) (map an_object objects) ≡ outcome
       → Comes files (run_command name schedule cycles names) outcome
   run_comes None cycles entries outcome h s hs e =
       let linked_on : List Entry → List Held → Outcome =
-      λ es helds. linked layout (objects_in helds) (λ image. runs image es cycles) in
+      λ es. with_objects (λ l. linked layout l (λ image. runs image es cycles)) in
       record {
         helds = a_layout layout ∷ map an_object objects;
         hold = (h, hs);

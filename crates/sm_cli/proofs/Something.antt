@@ -1,20 +1,23 @@
 -- Something comes of the files of every command line.
-use Rattle.std.proofs.Common.{◌≡◌, ℕ, ◌%◌, ◌==◌, ◌&&◌, nat_le, true, is_some, List, [], ◌∷◌, drop, Option, Some, None, option_map}
+use Rattle.std.proofs.Common.{◌≡◌, ℕ, ◌%◌, ◌==◌, ◌&&◌, nat_le, true, is_some, List, [], ◌∷◌, ◌++◌, drop, Option, Some, None, option_map, sym, ◌∙◌, ap}
 use Rattle.std.specs.Prelude.{option_and_then}
 use Rattle.sm_io.specs.Files.{FileMap}
 use Rattle.texts.specs.Hexadecimals.{read_hex_word, read_hex_key}
 use Rattle.mod_layout.specs.declared.Module.{Module}
 use Rattle.mod_layout.specs.Table.{module_of}
 use Rattle.image_text.specs.Image.{Image}
+use Rattle.schedule_file.specs.declared.Entry.{Entry}
+use Rattle.elf_objects.specs.Object.{ObjectValue}
 use Rattle.linker.specs.Refusals.{link_fault_of}
 use Rattle.arm_balance.specs.declared.Arm.{Arm}
 use Rattle.vendor_tool.specs.declared.Challenge.{Challenge}
-use Rattle.cli_files.specs.Files.{an_image, a_schedule, the_challenges, the_replies, certificates, a_layout, a_script, a_unit}
+use Rattle.cli_files.specs.Files.{Held, HoldAll, an_image, a_schedule, the_challenges, the_replies, certificates, a_layout, a_script, a_unit, schedule_needs, object_needs}
 use Rattle.cli_calls.specs.Words.{Text}
 use Rattle.cli_calls.specs.Ids.{id_of}
 use Rattle.cli_calls.specs.Values.{read_cycles, file_named}
 use Rattle.cli_calls.specs.Command.{Command, Outcome, runs, nothing, Comes}
 use Rattle.cli_calls.specs.CommandNames.{command_of}
+use Rattle.cli_calls.specs.ImageRuns.{with_schedule}
 use Rattle.sm_cli.specs.CommandLine.{sancus_commands}
 use Rattle.sm_cli.specs.AsmCommand.{asm_command, read_asm}
 use Rattle.sm_cli.specs.BalanceCommand.{balanced_by, balance_command, balance_in, read_balance}
@@ -22,8 +25,9 @@ use Rattle.sm_cli.specs.ChallengeCommand.{challenge_command, read_challenge}
 use Rattle.sm_cli.specs.CheckCommand.{check_command, read_check}
 use Rattle.sm_cli.specs.DisCommand.{dis_command, range_command, read_dis}
 use Rattle.sm_cli.specs.KeyCommand.{keys_by, key_command, read_key}
-use Rattle.cli_calls.specs.Linking.{linked, objects_in}
-use Rattle.cli_calls.proofs.Sound.{Sound, AllSound, some_linked, some_scheduled, of_image_run, of_objects, IfSound, IsSomething, if_none, if_some, if_map, if_then, if_else, something_comes}
+use Rattle.cli_calls.specs.Linking.{linked, with_objects}
+use Rattle.cli_calls.proofs.Given.{objects_of, some_objects, with_these}
+use Rattle.cli_calls.proofs.Sound.{Sound, AllSound, some_linked, of_image_run, of_objects, IfSound, IsSomething, if_none, if_some, if_map, if_then, if_else, something_comes}
 use Rattle.sm_cli.specs.LinkCommand.{linked_image_text}
 use Rattle.sm_cli.specs.LoneCommand.{lone_by, lone_command, lone_with, read_lone}
 use Rattle.sm_cli.specs.MakeCommand.{make_command, read_make, seed_of}
@@ -32,6 +36,7 @@ use Rattle.sm_cli.specs.declared.pairs.Pair.{Pair}
 use Rattle.sm_cli.specs.Pairs.{core_with, pairs_in}
 use Rattle.sm_cli.specs.RunCommand.{run_command, read_run}
 use Rattle.sm_cli.specs.VendorCommand.{report_by, vendor_command, read_vendor}
+use Rattle.sm_cli.proofs.Running.{objects_unscheduled}
 
 -- ---- the commands
 
@@ -96,12 +101,28 @@ sound_balance name id arms map (an_image value ∷ certificates own ∷ held ∷
 sound_balance name id arms map (an_image value ∷ second ∷ more) h e = h.1.0.is
 sound_balance name id arms map (held ∷ second ∷ more) h e = h.0.is
 
+-- what comes of objects, with a schedule and with none
+some_ran : (map : FileMap) (ran : List Entry → List ObjectValue → Outcome) (schedule : Option Text) (names : List Text)
+    (helds : List Held) → HoldAll (Some map) (schedule_needs schedule ++ object_needs names) helds
+    → ((entries : List Entry) (objects : List ObjectValue) → ran entries objects ≡ nothing → ⊥)
+    → with_schedule (λ entries. with_objects (ran entries)) helds ≡ nothing → ⊥
+some_ran map ran None names helds h some e =
+    let objects = objects_of (Some map) names helds h in
+    let ran_on : List Entry → List Held → Outcome = λ entries. with_objects (ran entries) in
+    let is = ap (with_schedule ran_on) objects.1 ∙ objects_unscheduled ran_on objects.0 ∙ with_these (ran []) objects.0
+    in
+    some [] objects.0 (sym is ∙ e)
+some_ran map ran (Some own) names [] h some e = h
+some_ran map ran (Some own) names (a_schedule entries ∷ more) h some e =
+    some_objects (Some map) (ran entries) names more h.1 (some entries) e
+some_ran map ran (Some own) names (held ∷ more) h some e = h.0.is
+
 sound_run : (layout : Text) (schedule : Option Text) (cycles : ℕ) (objects : List Text) → Sound (run_command layout schedule cycles objects)
 sound_run name schedule cycles objects map [] h e = h
 sound_run name schedule cycles objects map (a_layout layout ∷ more) h e =
-    some_scheduled (λ entries helds. linked layout (objects_in helds) (λ image. runs image entries cycles)) more
-    (λ entries helds none. some_linked layout (objects_in helds) (λ image. runs image entries cycles)
-    (link_fault_of layout (objects_in helds)) (λ image e. cc) none) e
+    some_ran map (λ entries own. linked layout own (λ image. runs image entries cycles)) schedule objects more h.1
+    (λ entries own. some_linked layout own (λ image. runs image entries cycles) (link_fault_of layout own)
+    (λ image e. cc)) e
 sound_run name schedule cycles objects map (held ∷ more) h e = h.0.is
 
 some_lone : (value : Image) (registers : List ℕ) (limit : ℕ) (o : Option Module) → is_some o ≡ true → lone_by value registers limit o ≡ nothing → ⊥

@@ -6,11 +6,11 @@ use Rattle.cli_calls.specs.Values.{file_named, read_cycles}
 use Rattle.cli_files.specs.Files.{Held, a_layout, layout_file, need, schedule_needs, object_needs}
 use Rattle.cli_calls.specs.Command.{Outcome, runs, nothing, Command}
 use Rattle.cli_calls.specs.ImageRuns.{with_schedule}
-use Rattle.cli_calls.specs.Linking.{objects_in, linked}
+use Rattle.cli_calls.specs.Linking.{with_objects, linked}
 
 abbrev pub run_outcome : ℕ → List Held → Outcome
 run_outcome cycles (a_layout layout ∷ more) =
-    with_schedule (λ entries objects. linked layout (objects_in objects) (λ image. runs image entries cycles)) more
+    with_schedule (λ entries. with_objects (λ objects. linked layout objects (λ image. runs image entries cycles))) more
 run_outcome cycles _ = nothing
 
 abbrev pub run_command : Text → Option Text → ℕ → List Text → Command
