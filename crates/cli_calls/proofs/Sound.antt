@@ -11,7 +11,7 @@ use Rattle.link_symbols.specs.declared.fault.LinkFault.{LinkFault}
 use Rattle.linker.specs.Refusals.{link_fault_of}
 use Rattle.cli_files.specs.Files.{Held, a_layout, a_schedule, an_image, HoldAll}
 use Rattle.cli_calls.specs.Command.{Command, Outcome, Comes, done, nothing}
-use Rattle.cli_calls.specs.ImageRuns.{image_run_command, read_image_run, with_schedule}
+use Rattle.cli_calls.specs.ImageRuns.{image_run_command, read_image_run}
 use Rattle.cli_calls.specs.Linking.{linked_by, objects_command, read_objects, text_linked}
 use Rattle.cli_calls.specs.CommandNames.{NamedCommand, command_by, command_of}
 use Rattle.cli_calls.specs.Values.{read_cycles, file_named}
@@ -36,23 +36,18 @@ sound_objects text name objects map (a_layout layout ∷ more) h e =
     (λ own. some_linked layout own (λ image. done (text layout own)) (link_fault_of layout own) (λ image e. cc)) e
 sound_objects text name objects map (held ∷ more) h e = h.0.is
 
--- an outcome by a schedule's entries is something, with a schedule and with none
-some_scheduled : (outcome : List Entry → List Held → Outcome) (helds : List Held)
-    → ((entries : List Entry) (more : List Held) → outcome entries more ≡ nothing → ⊥)
-    → with_schedule outcome helds ≡ nothing → ⊥
-some_scheduled outcome [] s e = s [] [] e
-some_scheduled outcome (a_schedule entries ∷ more) s e = s entries more e
-some_scheduled outcome (held ∷ more) s e = s [] (held ∷ more) e
-
 -- what is told of an image
 abbrev pub IsSomething : (Image → List Entry → ℕ → Outcome) → Type 0
 IsSomething told = (value : Image) (entries : List Entry) (cycles : ℕ) → told value entries cycles ≡ nothing → ⊥
 
 sound_image_run : (told : Image → List Entry → ℕ → Outcome) → IsSomething told → (name : Text) (schedule : Option Text) (cycles : ℕ) → Sound (image_run_command told name schedule cycles)
 sound_image_run told some name schedule cycles map [] h e = h
-sound_image_run told some name schedule cycles map (an_image value ∷ more) h e =
-    some_scheduled (λ entries others. told value entries cycles) more
-    (λ entries others none. some value entries cycles none) e
+sound_image_run told some name schedule cycles map (an_image value ∷ []) h e = some value [] cycles e
+sound_image_run told some name schedule cycles map (an_image value ∷ a_schedule entries ∷ []) h e =
+    some value entries cycles e
+sound_image_run told some name None cycles map (an_image value ∷ second ∷ more) h e = h.1
+sound_image_run told some name (Some own) cycles map (an_image value ∷ a_schedule entries ∷ third ∷ more) h e = h.1.1
+sound_image_run told some name (Some own) cycles map (an_image value ∷ second ∷ more) h e = h.1.0.is
 sound_image_run told some name schedule cycles map (held ∷ more) h e = h.0.is
 
 -- ---- the command of words
