@@ -1,5 +1,5 @@
 -- What comes of an image, terms and certificates, and of an answer with status 0.
-use Rattle.std.proofs.Common.{◌≡◌, ℕ, List, [], ◌∷◌, Option, Some, None, is_some, true, sym, ◌∙◌, ap, ap₂, subst}
+use Rattle.std.proofs.Common.{◌≡◌, ℕ, List, [], ◌∷◌, Option, Some, None, is_some, true, refl, sym, ◌∙◌, ap, ap₂, subst}
 use Rattle.sm_io.specs.Files.{FileMap}
 use Rattle.mod_layout.specs.declared.Module.{Module}
 use Rattle.mod_layout.specs.Table.{module_of}
@@ -16,7 +16,7 @@ use Rattle.cli_calls.specs.Words.{Text}
 use Rattle.cli_calls.proofs.Outcomes.{one_outcome}
 use Rattle.cli_calls.proofs.Sound.{Sound, IfSound, if_none, if_map}
 use Rattle.lab_cli.specs.PublicWords.{not_data, on_data}
-use Rattle.lab_cli.specs.UnderTerms.{Judging, arms_in, told_needs, judged_by, judged_command, judged_in, read_judged}
+use Rattle.lab_cli.specs.UnderTerms.{Judging, with_arms, arms_needs, told_needs, judged_by, judged_command, judged_in, read_judged}
 use Rattle.lab_cli.specs.internal.UnderTerms.{AreArmsOf}
 
 -- an address at which no word stands comes to a no
@@ -30,6 +30,16 @@ done_told : (o : Option ℕ) (outcome : Outcome) (answer : Answer) → Answers (
 done_told None outcome answer told e = told
 done_told (Some a) outcome answer told e =
     let clash : CheckNo ≡ Done = ap (λ (b : Answer). b.status) told ∙ e in absurd cc
+
+-- what comes of the file of certificates, or of none, is the outcome of some certificates
+armed : (files : Option FileMap) (outcome : List Arm → Outcome) (name : Option Text) (helds : List Held)
+    → HoldAll files (arms_needs name) helds → (arms : List Arm) × (with_arms outcome helds ≡ outcome arms)
+armed files outcome None [] h = ([], refl)
+armed files outcome None (held ∷ more) h = absurd h
+armed files outcome (Some name) [] h = absurd h
+armed files outcome (Some name) (certificates arms ∷ []) h = (arms, refl)
+armed files outcome (Some name) (certificates arms ∷ held ∷ more) h = absurd h.1
+armed files outcome (Some name) (held ∷ more) h = absurd h.0.is
 
 module _ (judging : Judging) where
   -- what comes of it is something
@@ -49,7 +59,9 @@ module _ (judging : Judging) where
   sound_judged some name id terms arms map [] h e = h
   sound_judged some name id terms arms map (held ∷ []) h e = h.1
   sound_judged some name id terms arms map (an_image value ∷ the_terms told ∷ more) h e =
-      some_judged some value told (arms_in more) (module_of id value.table) h.0.is.1 e
+      let owner = module_of id value.table in
+      let own = armed (Some map) (λ arms. judged_by judging value told arms owner) arms more h.1.1 in
+      some_judged some value told own.0 owner h.0.is.1 (sym own.1 ∙ e)
   sound_judged some name id terms arms map (an_image value ∷ held ∷ more) h e = h.1.0.is
   sound_judged some name id terms arms map (held ∷ second ∷ more) h e = h.0.is
 
@@ -96,14 +108,16 @@ module _ (judging : Judging) (map : FileMap) (name terms_name : Text) (arms_name
       → HoldAll (Some map) (need name (image_with id) ∷ told_needs terms_name arms_name) helds → JudgedComes
   with_terms [] h = absurd h
   with_terms (first ∷ []) h = absurd h.1
-  with_terms (first ∷ second ∷ more) h = (
-    arms_in more,
-    record {
-      helds = an_image value ∷ the_terms terms ∷ more;
-      hold = (image_is, (terms_are, h.1.1));
-      is = ap (judged_by judging value terms (arms_in more)) owned;
-    },
-  )
+  with_terms (first ∷ second ∷ more) h =
+      let outcome : List Arm → Outcome = λ arms. judged_by judging value terms arms (module_of id value.table) in
+      let own = armed (Some map) outcome arms_name more h.1.1 in (
+        own.0,
+        record {
+          helds = an_image value ∷ the_terms terms ∷ more;
+          hold = (image_is, (terms_are, h.1.1));
+          is = own.1 ∙ ap (judged_by judging value terms own.0) owned;
+        },
+      )
 
   -- an answer with status 0 is one to these terms, with some certificates
   pub judged_done : (answer : Answer) → answer.status ≡ Done

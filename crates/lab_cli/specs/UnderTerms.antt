@@ -22,10 +22,11 @@ arms_needs (Some name) = need name arms_file ∷ []
 abbrev pub told_needs : Text → Option Text → List Need
 told_needs terms arms = need terms terms_file ∷ arms_needs arms
 
--- the certificates of their file; with no file there are none
-abbrev pub arms_in : List Held → List Arm
-arms_in (certificates arms ∷ []) = arms
-arms_in _ = []
+-- an outcome by the certificates of their file; with no file there are none
+abbrev pub with_arms : (List Arm → Outcome) → List Held → Outcome
+with_arms outcome [] = outcome []
+with_arms outcome (certificates arms ∷ []) = outcome arms
+with_arms outcome _ = nothing
 
 -- what comes of terms, a module, its text and certificates
 abbrev pub Judging : Type 0
@@ -39,7 +40,7 @@ judged_by judging value terms arms None = nothing
 
 abbrev pub judged_outcome : Judging → ℕ → List Held → Outcome
 judged_outcome judging id (an_image value ∷ the_terms terms ∷ more) =
-    judged_by judging value terms (arms_in more) (module_of id value.table)
+    with_arms (λ arms. judged_by judging value terms arms (module_of id value.table)) more
 judged_outcome judging id _ = nothing
 
 abbrev pub judged_command : Judging → Text → ℕ → Text → Option Text → Command
