@@ -1,8 +1,8 @@
 -- What an instruction does once its reads gave their values: the instruction set of the
 -- MSP430x1xx Family User's Guide (SLAU049), section 3.4.
-use Rattle.std.specs.Prelude.{ℕ, List, [], ◌∷◌, drop, ◌==◌, Bool, true, false, not, if◌then◌else◌, ℤ, bit_and, bit_or}
+use Rattle.std.specs.Prelude.{ℕ, List, [], ◌∷◌, drop, slice_index, ◌==◌, Bool, true, false, not, if◌then◌else◌, ℤ, bit_and, bit_or}
 use Rattle.sm_words.specs.Sums.{low, complement, sum_of, dadd_of, and_of, xor_of, shifted, rra_of, sxt_of, swpb_of}
-use Rattle.sm_words.specs.Words.{nth, reg, put, bit, add16}
+use Rattle.sm_words.specs.Words.{reg, put, bit, add16}
 use Rattle.sm_words.specs.Status.{sr_with_flags}
 pub use Rattle.sm_words.specs.Status.{confined_sr}
 use Rattle.sm_words.specs.declared.registers.TheConstants.{PC, SP, SR}
@@ -76,7 +76,7 @@ abbrev pub given : Operand → Width → List ℕ → List ℕ → ℕ
 given (Reg r) w core values = low w (reg core r)
 given (Const c) w core values = low w c
 given (Imm x) w core values = low w x
-given _ w core values = low w (nth 0 values 0)
+given _ w core values = low w (slice_index values 0)
 
 -- whether an operand stands in memory
 abbrev pub in_memory : Operand → Bool
@@ -116,9 +116,9 @@ abbrev pub jumped : Bool → ℤ → List ℕ → List ℕ
 jumped true offset core = put core PC (add16 (reg core PC) (distance offset))
 jumped false offset core = core
 
--- the core that RETI leaves: SR and PC are what it read, and SP rises by 4
-abbrev pub returned : ℕ → ℕ → List ℕ → List ℕ
-returned sr pc core = put (put (put core SR sr) PC pc) SP (add16 (reg core SP) 4)
+-- the core that RETI leaves: SR and PC are the two words read, and SP rises by 4
+abbrev pub returned : List ℕ → List ℕ → List ℕ
+returned read core = put (put (put core SR (slice_index read 0)) PC (slice_index read 1)) SP (add16 (reg core SP) 4)
 
 -- format II, where the operand is read and its increment is done: PUSH and CALL store at the lowered SP
 abbrev pub one_done : OneOp → Width → Operand → ℕ → ℕ → List ℕ → Done
@@ -139,7 +139,7 @@ does_freely (One op w arg) core values =
     one_done op w arg (given arg w core1 values) (bit CARRY (reg core SR)) (stepped w arg core1)
 does_freely (Jump condition off) core values =
     record { core = jumped (jumps condition (reg core SR)) off (past (Jump condition off) core); stored = [] }
-does_freely Reti core values = record { core = returned (nth 0 values 0) (nth 1 values 0) core; stored = [] }
+does_freely Reti core values = record { core = returned values core; stored = [] }
 does_freely (UnitOp name) core values = record { core = past (UnitOp name) core; stored = [] }
 
 -- the new core, where a module runs: SR keeps all bits but C, Z, N and V
