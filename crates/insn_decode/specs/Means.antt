@@ -1,5 +1,5 @@
 -- The code table as a relation: one row for each form of a first word.
-use Rattle.std.specs.Prelude.{◌≡◌, ◌≢◌, ℕ, ◌+◌, ◌/◌, ◌%◌, ◌<◌, ◌==◌, if◌then◌else◌, IsTrue}
+use Rattle.std.specs.Prelude.{◌≡◌, ◌≢◌, ℕ, ◌+◌, ◌/◌, ◌<◌, ◌==◌, if◌then◌else◌, IsTrue}
 use Rattle.insn_decode.specs.declared.insn.TwoOp.{TwoOp}
 use Rattle.insn_decode.specs.declared.insn.TwoOp.TheVariants.{Mov, Add, Addc, Subc, Sub, Cmp, Dadd, Bit, Bic, Bis, Xor, And}
 use Rattle.insn_decode.specs.declared.insn.OneOp.{OneOp}
@@ -12,7 +12,7 @@ use Rattle.insn_decode.specs.declared.insn.UnitName.{UnitName}
 use Rattle.insn_decode.specs.declared.insn.UnitName.TheVariants.{Unprotect, Protect, Attest, Tag, IdOf, OwnId, CallerId}
 use Rattle.insn_decode.specs.declared.insn.Insn.{Insn}
 use Rattle.insn_decode.specs.declared.insn.Insn.TheVariants.{Two, One, Jump, Reti, Unit as UnitOp}
-use Rattle.insn_decode.specs.Code.{words_of, width_of, offset_of, one_fits}
+use Rattle.insn_decode.specs.Code.{bits, words_of, width_of, offset_of, one_fits}
 
 -- bits 15 to 12 of format I
 abbrev pub two_code : TwoOp → ℕ
@@ -90,9 +90,9 @@ pub data Destination : ℕ → ℕ → ℕ → Operand → Type 0 where
 
 -- the words mean this instruction of this length
 pub data Means (w0 w1 w2 : ℕ) : Insn → ℕ → Type 0 where
-  format_one : (op : TwoOp) (s d : Operand) → w0 / 4096 ≡ two_code op → Source ((w0 / 16) % 4) ((w0 / 256) % 16) w1 s → Destination ((w0 / 128) % 2) (w0 % 16) (if words_of s == 1 then w2 else w1) d → Means w0 w1 w2 (Two op (width_of ((w0 / 64) % 2)) s d) (1 + words_of s + words_of d)
-  format_two : (op : OneOp) (a : Operand) → w0 / 1024 ≡ 4 → (w0 / 128) % 8 ≡ one_code op → Source ((w0 / 16) % 4) (w0 % 16) w1 a → IsTrue (one_fits op (width_of ((w0 / 64) % 2)) a) → Means w0 w1 w2 (One op (width_of ((w0 / 64) % 2)) a) (1 + words_of a)
-  jump : (condition : Condition) → w0 / 8192 ≡ 1 → (w0 / 1024) % 8 ≡ condition_code condition → Means w0 w1 w2 (Jump condition (offset_of (w0 % 1024))) 1
+  format_one : (op : TwoOp) (s d : Operand) → w0 / 4096 ≡ two_code op → Source (bits 5 4 w0) (bits 11 8 w0) w1 s → Destination (bits 7 7 w0) (bits 3 0 w0) (if words_of s == 1 then w2 else w1) d → Means w0 w1 w2 (Two op (width_of (bits 6 6 w0)) s d) (1 + words_of s + words_of d)
+  format_two : (op : OneOp) (a : Operand) → w0 / 1024 ≡ 4 → bits 9 7 w0 ≡ one_code op → Source (bits 5 4 w0) (bits 3 0 w0) w1 a → IsTrue (one_fits op (width_of (bits 6 6 w0)) a) → Means w0 w1 w2 (One op (width_of (bits 6 6 w0)) a) (1 + words_of a)
+  jump : (condition : Condition) → w0 / 8192 ≡ 1 → bits 12 10 w0 ≡ condition_code condition → Means w0 w1 w2 (Jump condition (offset_of (bits 9 0 w0))) 1
   return : w0 ≡ 0x1300 → Means w0 w1 w2 Reti 1
   unit : (name : UnitName) → w0 ≡ 0x1380 + unit_code name → Means w0 w1 w2 (UnitOp name) 1
 
