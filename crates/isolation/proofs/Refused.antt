@@ -106,7 +106,7 @@ later_is : (s : State) → first_of (later_checks s) ≡ later_by (insn_of (firs
 later_is s =
     let n = length_at (first_word s) in
     let accesses = asked_by (insn_at_pc s) s in
-    ap (λ d. option_or (refuse_if (is_none (insn_of (first_word s) 0 0)) Illegal (pc_of s) 0) (option_or (refuse_if (not (is_home s.table s.active (pc_of s) n)) Straddle (pc_of s) 0) (option_or (refuse_if (returns_inside (insn_at_pc s) s.active) RetiInside (pc_of s) 0) d))) (first_of_map s.table s.active (held_ids s.frames) accesses)
+    ap (λ d. option_or (refuse_if (is_none (insn_of (first_word s) 0 0)) Illegal (pc_of s) 0) (option_or (refuse_if (not (is_home s.table s.active (pc_of s) n)) Straddle (pc_of s) 0) (option_or (refuse_if (returns_inside (insn_at_pc s) s.active) RetiInside (pc_of s) 0) d))) (first_of_map (right s.table s.active (held_ids s.frames)) accesses)
 
 act_stops : (s : State) → s.stop ≡ None → Stops (act s) (first_of (later_checks s)) s
 unfolding act
