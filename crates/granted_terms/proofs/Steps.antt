@@ -5,6 +5,7 @@ use Rattle.sm_words.specs.Words.{nth, add16, word_at}
 use Rattle.sm_words.specs.declared.width.Width.TheVariants.{Word}
 use Rattle.insn_decode.specs.Code.{is_always}
 use Rattle.insn_decode.specs.declared.insn.TwoOp.TheVariants.{Mov}
+use Rattle.insn_decode.specs.declared.insn.OneOp.TheVariants.{Call}
 use Rattle.insn_decode.specs.declared.insn.Operand.TheVariants.{Reg, Increment}
 use Rattle.insn_decode.specs.declared.insn.Condition.{Condition}
 use Rattle.insn_decode.specs.declared.insn.Insn.{Insn}
@@ -28,7 +29,7 @@ use Rattle.flow_rule.specs.Violations.{violation_if, reach_violations}
 use Rattle.flow_rule.specs.Going.{goes_by, goes, both, also, fails}
 use Rattle.flow_rule.specs.Returns.{ReturnTurn, calls, return_turn, without_newest, last_is}
 use Rattle.flow_rule.specs.Steps.{step_plain, step_jump, step_unit, step_insn, step_of}
-use Rattle.flow_rule.specs.Stub.{text_word, has_stub, word_number, is_open, shut_violations, shut_if, to_entries, call_entry, entries_of, step_entries, step_stub}
+use Rattle.flow_rule.specs.Stub.{text_word, has_stub, word_number, is_open, is_shut, shut_violations, shut_if, to_entries, call_entry, entries_of, step_entries, step_stub}
 use Rattle.flow_rule.specs.Verdict.{flow_step}
 use Rattle.flow_rule.proofs.Goes.{goes_in, goes_unless}
 use Rattle.flow_rule.proofs.Plans.{none_left, none_right, none_if}
@@ -63,6 +64,7 @@ turn_same (Two Mov Word (Increment n) (Reg d)) pc r xs ys p e = by ((n == 1) && 
         ap returned (last_same (nth 0 xs Secret) (nth 0 ys Secret) r (nth_keeps xs ys 0 p)
         (not-false (last_is (nth 0 xs Secret) r) e))
     by false e = refl
+turn_same (One Call w a) pc r xs ys p e = refl
 turn_same insn pc r xs ys p e = refl
 
 lower_append : (xs xs' ys ys' : List Point) → EachLower xs ys → EachLower xs' ys' → EachLower (xs ++ xs') (ys ++ ys')
@@ -70,6 +72,45 @@ lower_append [] xs' [] ys' h k = k
 lower_append (x ∷ xs) xs' (y ∷ ys) ys' h k = (h.0, lower_append xs xs' ys ys' h.1 k)
 lower_append [] xs' (y ∷ ys) ys' h k = absurd h
 lower_append (x ∷ xs) xs' [] ys' h k = absurd h
+
+-- ---- what no terms bear on
+abbrev read : Module → List ℕ → Label → List Reach → List Val
+read m text l xs = map (read_val m text l.words) (read_reaches xs)
+
+-- a plain step, over its accesses and what it makes of the return addresses
+abbrev plain : Terms → Module → List ℕ → Insn → ℕ → Label → List Reach → ReturnTurn → FlowStep
+plain terms m text insn pc l xs t =
+    let does = does_val insn pc l.core (read m text l xs) in
+    also (reach_violations m pc xs ++ t.violations)
+    (goes_unless terms t.stops m pc t.returns does.core (writes_val m l.words (write_reaches xs) does.stored))
+
+entries_lower : (m : Module) (text : List ℕ) (k : ℕ) (rs : List ℕ) (ts vs ws us : List Val) → AbsorbsEach ts vs →
+    AbsorbsEach ws us → EachLower (to_entries m text k rs ts ws) (to_entries m text k rs vs us)
+entries_lower m text zero rs ts vs ws us p d = tt
+entries_lower m text (suc k) rs ts vs ws us p d =
+    let a = text_word m text (front_words + k) in
+    (record { pair = refl; core = put_keeps ts vs 0 (Known a) (Known a) p refl; words = d },
+    entries_lower m text k rs ts vs ws us p d)
+
+module _ (m : Module) (pc : ℕ) where
+  -- a push to a place that is known
+  pushed_same : (t v : Val) → AbsorbsVal t v →
+      reach_violations m pc (record { kind = Write; addr = t; width = Word } ∷ []) ≡ [] → v ≡ t
+  pushed_same (Known a) (Known b) h e = ap Known h
+  pushed_same (Known a) _ h e = absurd h
+  pushed_same _ v h e = absurd cc
+
+  -- whether the stub's words are shut is a matter of addresses
+  shut_same : (xs ys : List Point) → EachLower xs ys → shut_violations m pc ys ≡ shut_violations m pc xs
+  shut_same [] [] h = refl
+  shut_same (x ∷ xs) (y ∷ ys) h =
+      ap (λ (i : Pair). shut_here i ++ shut_violations m pc ys) h.0.pair
+      ∙ ap (λ i. shut_here x.pair ++ i) (shut_same xs ys h.1)
+    where
+      shut_here : Pair → List RuleViolation
+      shut_here i = violation_if (is_shut (word_number m i.addr)) pc UnknownTarget 0
+  shut_same [] (y ∷ ys) h = absurd h
+  shut_same (x ∷ xs) [] h = absurd h
 
 -- ---- steps under terms, and under others that have no violation there
 module _ (now other : Terms) where
@@ -123,36 +164,28 @@ module _ (now other : Terms) where
 
   -- ---- an instruction
   module _ (m : Module) (text : List ℕ) (pc : ℕ) (r : List ℕ) (top low : Label) (p : AbsorbsEach top.core low.core) (d : AbsorbsEach top.words low.words) where
-    abbrev read : Label → List Reach → List Val
-    read l xs = map (read_val m text l.words) (read_reaches xs)
-
-    -- a plain step, over its accesses and what it makes of the return addresses
-    abbrev plain : Terms → Insn → Label → List Reach → ReturnTurn → FlowStep
-    plain terms insn l xs t =
-        let does = does_val insn pc l.core (read l xs) in
-        also (reach_violations m pc xs ++ t.violations)
-        (goes_unless terms t.stops m pc t.returns does.core (writes_val m l.words (write_reaches xs) does.stored))
-
     plain_follows : (insn : Insn) → (step_plain other m text insn (point pc r top)).violations ≡ [] →
         Follows now other (step_plain other m text insn (point pc r top)) (step_plain now m text insn (point pc r low))
     plain_follows insn e =
         let xs = plan_val insn pc top.core in
-        let t = return_turn insn pc r (read top xs) in
-        let does = does_val insn pc top.core (read top xs) in
+        let given : Label → List Val = λ l. read m text l xs in
+        let t = return_turn insn pc r (given top) in
+        let does = does_val insn pc top.core (given top) in
         let rs = reach_violations m pc xs ++ t.violations in
         let words = writes_val m top.words (write_reaches xs) does.stored in
         let next = goes_unless other t.stops m pc t.returns does.core words in
         let calm : rs ≡ [] = none_left rs next.violations e in
         let onward : next.violations ≡ [] = none_right rs next.violations e in
         let reads = reads_keep m text (read_reaches xs) top.words low.words d in
-        let done = does_keeps insn pc top.core low.core (read top xs) (read low xs) p reads in
+        let done = does_keeps insn pc top.core low.core (given top) (given low) p reads in
         let stored = writes_keep m (write_reaches xs) top.words low.words _ _ d done.stored_kept in
         let plans : plan_val insn pc low.core ≡ xs =
         same_plan m pc insn top.core low.core p (none_left (reach_violations m pc xs) t.violations calm) in
-        let turn : return_turn insn pc r (read low xs) ≡ t =
-        turn_same insn pc r (read top xs) (read low xs) reads (goes_on m pc t.returns _ _ _ _ done.core_kept stored t.stops onward) in
-        let same : step_plain now m text insn (point pc r low) ≡ plain now insn low xs t =
-        ap (λ ys. plain now insn low ys (return_turn insn pc r (read low ys))) plans ∙ ap (plain now insn low xs) turn in
+        let turn : return_turn insn pc r (given low) ≡ t =
+        turn_same insn pc r (given top) (given low) reads (goes_on m pc t.returns _ _ _ _ done.core_kept stored t.stops onward) in
+        let same : step_plain now m text insn (point pc r low) ≡ plain now m text insn pc low xs t =
+        ap (λ ys. plain now m text insn pc low ys (return_turn insn pc r (read m text low ys))) plans
+        ∙ ap (plain now m text insn pc low xs) turn in
         subst (λ s. Follows now other (step_plain other m text insn (point pc r top)) s) (sym same)
         (also_follows rs rs _ _ calm (unless_follows m pc t.returns _ _ _ _ done.core_kept stored t.stops onward))
 
@@ -217,21 +250,6 @@ module _ (now other : Terms) where
     of_follows e = insn_follows (met m.text text pc) e
 
     -- ---- in a stub
-    -- a push to a place that is known
-    pushed_same : (t v : Val) → AbsorbsVal t v →
-        reach_violations m pc (record { kind = Write; addr = t; width = Word } ∷ []) ≡ [] → v ≡ t
-    pushed_same (Known a) (Known b) h e = ap Known h
-    pushed_same (Known a) _ h e = absurd h
-    pushed_same _ v h e = absurd cc
-
-    entries_lower : (k : ℕ) (rs : List ℕ) (ts vs ws us : List Val) → AbsorbsEach ts vs → AbsorbsEach ws us →
-        EachLower (to_entries m text k rs ts ws) (to_entries m text k rs vs us)
-    entries_lower zero rs ts vs ws us h k = tt
-    entries_lower (suc n) rs ts vs ws us h k =
-        let a = text_word m text (front_words + n) in
-        (record { pair = refl; core = put_keeps ts vs 0 (Known a) (Known a) h refl; words = k },
-        entries_lower n rs ts vs ws us h k)
-
     entries_follow : (step_entries m text (point pc r top)).violations ≡ [] →
         Follows now other (step_entries m text (point pc r top)) (step_entries m text (point pc r low))
     entries_follow e =
@@ -244,27 +262,19 @@ module _ (now other : Terms) where
         let push : Val → List Reach = λ v. record { kind = Write; addr = v; width = Word } ∷ [] in
         let t = calls pc r (pc + 4) in
         let same : val (lowered_val vs) 1 ≡ sp =
-        pushed_same sp (val (lowered_val vs) 1) (nth_keeps (lowered_val ts) (lowered_val vs) 1 lowered)
+        pushed_same m pc sp (val (lowered_val vs) 1) (nth_keeps (lowered_val ts) (lowered_val vs) 1 lowered)
         (none_left (reach_violations m pc (push sp)) t.violations e) in
         let none : reach_violations m pc (push (val (lowered_val vs) 1)) ++ t.violations ≡ [] =
         ap (λ v. reach_violations m pc (push v) ++ t.violations) same ∙ e in
-        let pushed : List Val → Val → List Val = λ us v. writes_val m us (push v) (Known (pc + 4) ∷ []) in
+        let stored : List Val = Known (pc + 4) ∷ [] in
+        let pushed : List Val → Val → List Val = λ us v. writes_val m us (push v) stored in
         let words : AbsorbsEach (pushed top.words sp) (pushed low.words (val (lowered_val vs) 1)) =
         subst (λ v. AbsorbsEach (pushed top.words sp) (pushed low.words v)) (sym same)
-        (writes_keep m (push sp) top.words low.words _ _ d (refl, tt)) in
+        (writes_keep m (push sp) top.words low.words stored stored d (refl, tt)) in
         record {
           forgiven = subst (λ i. EachForgiven now other i) (sym none) tt;
-          gives = entries_lower (entries_of m text) t.returns _ _ _ _ lowered words;
+          gives = entries_lower m text (entries_of m text) t.returns _ _ _ _ lowered words;
         }
-
-    -- where a step goes, it is seen by addresses alone whether the stub's words are shut to it
-    shut_same : (xs ys : List Point) → EachLower xs ys → shut_violations m pc ys ≡ shut_violations m pc xs
-    shut_same [] [] h = refl
-    shut_same (x ∷ xs) (y ∷ ys) h =
-        ap (λ i. shut_violations m pc (record { pair = i; label = y.label } ∷ []) ++ shut_violations m pc ys) h.0.pair
-        ∙ ap (λ i. shut_violations m pc (x ∷ []) ++ i) (shut_same xs ys h.1)
-    shut_same [] (y ∷ ys) h = absurd h
-    shut_same (x ∷ xs) [] h = absurd h
 
     shut_follows : (open_here : Bool) (s q : FlowStep) → (s.violations ≡ [] → Follows now other s q) →
         (shut_if open_here m pc s).violations ≡ [] → Follows now other (shut_if open_here m pc s) (shut_if open_here m pc q)
@@ -272,7 +282,7 @@ module _ (now other : Terms) where
     shut_follows false s q follows e =
         let f = follows (none_left s.violations (shut_violations m pc s.gives) e) in
         let none : shut_violations m pc q.gives ≡ [] =
-        shut_same s.gives q.gives f.gives ∙ none_right s.violations (shut_violations m pc s.gives) e in
+        shut_same m pc s.gives q.gives f.gives ∙ none_right s.violations (shut_violations m pc s.gives) e in
         record {
           forgiven = each_append now other q.violations (shut_violations m pc q.gives) f.forgiven
               (subst (λ i. EachForgiven now other i) (sym none) tt);
