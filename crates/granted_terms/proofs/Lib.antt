@@ -1,1 +1,9 @@
 pub mod Forgiven
+pub mod StepsEnds
+pub mod Steps
+pub mod Lowering
+pub mod Covering
+pub mod Starts
+pub mod Accepting
+pub mod Naming
+pub mod Offering

@@ -35,7 +35,7 @@ in_range (t ∷ ts) zero e = omega arith
 in_range (t ∷ ts) (suc n) e = let h = in_range ts n e in omega (arith, h)
 
 -- ---- values that become Public at some places
-long_each : (places : List ℕ) (vs : List Val) → length (set_each places Public vs) ≡ length vs
+pub long_each : (places : List ℕ) (vs : List Val) → length (set_each places Public vs) ≡ length vs
 long_each [] vs = refl
 long_each (n ∷ places) vs = long_each places (set vs n Public) ∙ length-set vs n Public
 

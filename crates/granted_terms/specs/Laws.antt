@@ -1,7 +1,6 @@
 -- The law of granted terms: without certificates the most public words and the fewest answers are offered.
 use Rattle.std.specs.Prelude.{◌≡◌, ℕ, List, [], length, All, Contains}
 use Rattle.mod_layout.specs.declared.Module.{Module}
-use Rattle.mod_layout.specs.Tables.{IsSection}
 use Rattle.terms_file.specs.declared.Term.{Term}
 use Rattle.terms_file.specs.declared.Term.TheVariants.{Answer, Public}
 use Rattle.flow_rule.specs.Terms.{Terms}
@@ -23,6 +22,6 @@ pub record AreNoLess (terms others : Terms) : Type 0 where
 -- where the text is accepted under any of the granted terms, it is under those offered, which are no less
 abbrev pub GreatestTerms : Type 0
 GreatestTerms = (owner : Module) (text : List ℕ) (granted offered : List Term) (verdict : Verdict) (others : Terms) →
-    IsSection owner.text → IsOffered owner text [] granted (length granted) [] offered verdict →
+    IsOffered owner text [] granted (length granted) [] offered verdict →
     AreGranted granted others → VerdictUnder others owner text [] Yes →
     (verdict ≡ Yes) × AreNoLess (told_by offered) others
