@@ -1,6 +1,6 @@
 -- Where a text is accepted under some terms, and without certificates, its verdict under terms with more public words
 -- and fewer answers is Yes, or names what is forgiven.
-use Rattle.std.proofs.Common.{◌≡◌, inl, inr, ℕ, zero, suc, ◌≤◌, List, [], ◌∷◌, ◌++◌, length, refl, sym, ap, ◌∙◌, subst, arith, Bool, true, false, cond, ◌&&◌, not, Option, Some, None}
+use Rattle.std.proofs.Common.{◌≡◌, inl, inr, ℕ, zero, suc, ◌≤◌, List, [], ◌∷◌, length, refl, sym, ap, ◌∙◌, subst, arith, Bool, true, false, cond, ◌&&◌, not, Option, Some, None}
 use Rattle.sm_words.specs.Words.{add16}
 use Rattle.insn_decode.specs.Code.{distance, is_always}
 use Rattle.insn_decode.specs.declared.insn.Insn.{Insn}
@@ -34,9 +34,12 @@ among_forgiven now other r (q ∷ rs) h (inl e) = subst (Forgiven now other) (sy
 among_forgiven now other r (q ∷ rs) h (inr a) = among_forgiven now other r rs h.1 a
 
 -- ---- steps that lie below those of a labelling without a violation
-module _ (now other : Terms) (above below : Point → FlowStep) (follows : (top low : Point) → Lower top low → (above top).violations ≡ [] → Follows now other (above top) (below low))
-    (start low : Point) (ts : List Point) (rest : Settled above start ts)
-  where
+-- from a point that is lower than one where the step has no violation, the other gives lower points and violations that are forgiven
+abbrev Below : Terms → Terms → (Point → FlowStep) → (Point → FlowStep) → Type 0
+Below now other above below =
+    (top low : Point) → Lower top low → (above top).violations ≡ [] → Follows now other (above top) (below low)
+
+module _ (now other : Terms) (above below : Point → FlowStep) (follows : Below now other above below) (start low : Point) (ts : List Point) (rest : Settled above start ts) where
   gives_held : (gs ls : List Point) → EachLower gs ls → EachHeld gs ts → EachHeld ls ts
   gives_held [] [] l h = tt
   gives_held (g ∷ gs) (x ∷ ls) l h = (held_lower g x ts l.0 h.0, gives_held gs ls l.1 h.1)
@@ -102,8 +105,7 @@ plain terms m text x = by (met m.text text x.pair.addr)
     by _ = refl
 
 module _ (now other : Terms) (m : Module) (text : List ℕ) where
-  under_follows : (top low : Point) → Lower top low → (flow_under other m text [] top).violations ≡ [] →
-      Follows now other (flow_under other m text [] top) (flow_under now m text [] low)
+  under_follows : Below now other (flow_under other m text []) (flow_under now m text [])
   under_follows top low l e =
       let here = plain other m text top in
       let there = plain now m text low in

@@ -1,5 +1,5 @@
 -- What is offered of granted terms, without certificates.
-use Rattle.std.proofs.Common.{◌≡◌, ◌≢◌, ℕ, zero, suc, ◌+◌, ◌<◌, ◌≤◌, List, [], ◌∷◌, ◌++◌, length, get_or, All, refl, sym, ap, ◌∙◌, subst, arith, Bool, true, false, MatchBool, ◌==◌, ◌||◌}
+use Rattle.std.proofs.Common.{◌≡◌, ℕ, zero, suc, ◌≤◌, List, [], ◌∷◌, ◌++◌, length, All, refl, sym, ap, ◌∙◌, subst, arith, Bool, true, false, MatchBool, ◌==◌, ◌||◌}
 use Rattle.std.specs.List.{Contains, list_any}
 use Rattle.std.proofs.lemmas.Bool.{both_ways, eqb-true, eq-eqb}
 use Rattle.std.proofs.lemmas.List.Elements.{All-nil, All-cons}
@@ -13,7 +13,7 @@ use Rattle.flow_rule.proofs.Telling.{on_list}
 use Rattle.terms_file.specs.declared.Term.{Term}
 use Rattle.terms_file.specs.declared.Term.TheVariants.{Answer, Public}
 use Rattle.cli_calls.specs.Offers.{told_by, is_register, is_word, names, standing_terms, IsOffered}
-use Rattle.granted_terms.specs.Laws.{AreGranted, AreNoLess, GreatestTerms}
+use Rattle.granted_terms.specs.Laws.{AreGranted, GreatestTerms}
 use Rattle.granted_terms.proofs.Accepting.{IsForgiven, verdict_forgiven}
 use Rattle.granted_terms.proofs.Forgiven.{Within}
 use Rattle.granted_terms.proofs.Naming.{told, Granted, Named, none_named, within, named_more, is_granted, unnamed, all_unnamed, fewer_unnamed}

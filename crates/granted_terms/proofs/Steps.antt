@@ -1,7 +1,7 @@
 -- The step under terms, from a point that is lower than one where the step under others has no violation.
-use Rattle.std.proofs.Common.{◌≡◌, ℕ, zero, suc, ◌+◌, ◌*◌, List, [], ◌∷◌, ◌++◌, map, refl, sym, ap, ◌∙◌, subst, Bool, true, false, cond, ◌==◌, ◌&&◌, not, Option, Some, None, ℤ}
+use Rattle.std.proofs.Common.{◌≡◌, ℕ, zero, suc, ◌+◌, List, [], ◌∷◌, ◌++◌, map, refl, sym, ap, ◌∙◌, subst, Bool, true, false, cond, ◌==◌, ◌&&◌, not, Option, Some, None, ℤ}
 use Rattle.std.proofs.lemmas.Bool.{not-false}
-use Rattle.sm_words.specs.Words.{nth, add16, word_at}
+use Rattle.sm_words.specs.Words.{nth, add16}
 use Rattle.sm_words.specs.declared.width.Width.TheVariants.{Word}
 use Rattle.insn_decode.specs.Code.{is_always}
 use Rattle.insn_decode.specs.declared.insn.TwoOp.TheVariants.{Mov}
@@ -15,18 +15,18 @@ use Rattle.mod_layout.specs.declared.Module.{Module}
 use Rattle.mod_layout.specs.Table.{holds}
 use Rattle.entry_stubs.specs.Stub.{front_words, call_word}
 use Rattle.attest.specs.Units.{UnitName, Unprotect, OwnId, CallerId}
-use Rattle.arm_balance.specs.Met.{text_byte, met}
+use Rattle.arm_balance.specs.Met.{met}
 use Rattle.flow_rule.specs.Terms.{Terms}
 use Rattle.flow_rule.specs.declared.Val.{Val}
 use Rattle.flow_rule.specs.declared.Val.TheVariants.{Known, Away, Public, Secret}
 use Rattle.flow_rule.specs.declared.Label.{Label}
 use Rattle.flow_rule.specs.declared.Reach.{Reach}
 use Rattle.flow_rule.specs.declared.Reason.TheVariants.{SecretBranch, UnknownTarget}
-use Rattle.flow_rule.specs.Values.{is_secret, val, put_val}
+use Rattle.flow_rule.specs.Values.{is_secret, val}
 use Rattle.flow_rule.specs.Rounds.{Pair, Point, RuleViolation, FlowStep}
 use Rattle.flow_rule.specs.Does.{plan_val, read_val, writes_val, read_reaches, write_reaches, does_val, past_val, lowered_val}
 use Rattle.flow_rule.specs.Violations.{violation_if, reach_violations}
-use Rattle.flow_rule.specs.Going.{goes_by, goes, both, also, fails}
+use Rattle.flow_rule.specs.Going.{goes_by, goes, both, also}
 use Rattle.flow_rule.specs.Returns.{ReturnTurn, calls, return_turn, without_newest, last_is}
 use Rattle.flow_rule.specs.Steps.{step_plain, step_jump, step_unit, step_insn, step_of}
 use Rattle.flow_rule.specs.Stub.{text_word, has_stub, word_number, is_open, is_shut, shut_violations, shut_if, to_entries, call_entry, entries_of, step_entries, step_stub}
@@ -88,9 +88,10 @@ entries_lower : (m : Module) (text : List ℕ) (k : ℕ) (rs : List ℕ) (ts vs 
     AbsorbsEach ws us → EachLower (to_entries m text k rs ts ws) (to_entries m text k rs vs us)
 entries_lower m text zero rs ts vs ws us p d = tt
 entries_lower m text (suc k) rs ts vs ws us p d =
-    let a = text_word m text (front_words + k) in
-    (record { pair = refl; core = put_keeps ts vs 0 (Known a) (Known a) p refl; words = d },
-    entries_lower m text k rs ts vs ws us p d)
+    let a = text_word m text (front_words + k) in (
+      record { pair = refl; core = put_keeps ts vs 0 (Known a) (Known a) p refl; words = d },
+      entries_lower m text k rs ts vs ws us p d,
+    )
 
 module _ (m : Module) (pc : ℕ) where
   -- a push to a place that is known
