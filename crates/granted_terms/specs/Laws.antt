@@ -19,7 +19,7 @@ pub record AreNoLess (terms others : Terms) : Type 0 where
   pub public : All (Contains terms.public) others.public
   pub answers : All (Contains others.answers) terms.answers
 
--- where the text is accepted under any of the granted terms, it is under those offered, which are no less
+-- where the text is accepted under some of the granted terms, so it is under those offered, which are no less
 abbrev pub GreatestTerms : Type 0
 GreatestTerms = (owner : Module) (text : List ℕ) (granted offered : List Term) (verdict : Verdict) (others : Terms) →
     IsOffered owner text [] granted (length granted) [] offered verdict →

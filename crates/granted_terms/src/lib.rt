@@ -3,8 +3,8 @@
 
 ghost use Rattle.granted_terms.specs.Laws.{GreatestTerms};
 
-/// Without certificates, what is offered of granted terms is accepted where any of them are, with each of their public
-/// words and no other answer than theirs.
+/// Without certificates, where a text is accepted under some of the granted terms, so it is under those that are
+/// offered, which have each of these public words and no other answer.
 pub fn greatest()
     ensures greatest { GreatestTerms }
 {}
