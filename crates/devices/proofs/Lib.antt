@@ -4,4 +4,4 @@ mod FourBits
 mod Order
 pub mod Acting
 mod Waiting
-mod Passing
+pub mod Passing
