@@ -7,7 +7,7 @@ use Rattle.sm_words.specs.declared.width.Width.{Width}
 use Rattle.sm_words.specs.declared.width.Width.TheVariants.{Byte, Word}
 use Rattle.insn_decode.specs.declared.insn.Insn.{Insn}
 use Rattle.insn_decode.specs.declared.insn.Insn.TheVariants.{Reti, Unit as UnitOp}
-use Rattle.mod_layout.specs.Table.{holds}
+use Rattle.mod_layout.specs.Table.{Table, holds}
 use Rattle.mod_layout.specs.declared.Module.{Module}
 use Rattle.pc_access.specs.Rights.{misaligned}
 use Rattle.pc_access.specs.declared.Access.{Access}
@@ -45,10 +45,13 @@ starts e d = record { core = e.core; data_bytes = d; rest = 0; closing = false }
 abbrev pub lone_byte : Job → List ℕ → ℕ → ℕ
 lone_byte j d a = if holds j.owner.text a then slice_index j.text (a - j.owner.text.start) else slice_index d (a - j.owner.ram.start)
 
--- the module as the one who does an instruction, with a table of this module alone
+-- a table of this module alone
+abbrev pub lone_table : Job → Table
+lone_table j = record { modules = j.owner ∷ []; given = j.owner.id; room = 8 }
+
+-- the module as the one who does an instruction
 abbrev pub lone_who : Job → Doer
-lone_who j = record { own = Some j.owner; caller = j.caller; key = j.key;
-    table = record { modules = j.owner ∷ []; given = j.owner.id; room = 8 } }
+lone_who j = record { own = Some j.owner; caller = j.caller; table = lone_table j; key = j.key }
 
 -- an instruction that a module by itself may do
 abbrev pub is_alone : Insn → Bool

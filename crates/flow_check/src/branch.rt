@@ -37,8 +37,13 @@ fn is_same_jump(one: &Insn, other: &Insn) -> bool
     ensures { result ≡ true → one.now ≡ other.now }
 {
     match (*one, *other) {
-        (Insn::Jump { condition, offset }, Insn::Jump { condition: c, offset: o }) => condition == c
-            && offset == o,
+        (
+            Insn::Jump { condition, offset },
+            Insn::Jump {
+                condition: c,
+                offset: o,
+            },
+        ) => condition == c && offset == o,
         _ => false,
     }
 }

@@ -1,7 +1,6 @@
 //! The verdict of the fixpoint: the least violation, or yes.
 
-ghost use Rattle.std.specs.Prelude.{◌≡◌, ◌≤◌, ◌<◌, ◌+◌, [], length, drop, ℕ};
-ghost use Rattle.std.specs.Prelude.{IfOk, None};
+ghost use Rattle.std.specs.Prelude.{◌≡◌, ◌≤◌, ◌<◌, ◌+◌, [], length, drop, ℕ, IfOk, None};
 ghost use Rattle.flow_rule.specs.declared.Label.{Label};
 ghost use Rattle.flow_rule.specs.Rounds.{all_violations, Point, IsLabelling};
 ghost use Rattle.flow_rule.specs.Verdict.{Decided};

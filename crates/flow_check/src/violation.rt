@@ -1,7 +1,6 @@
 //! What is wrong at a program point: the least violation is told.
 
-ghost use Rattle.std.specs.Prelude.{◌≡◌, ◌≤◌, ◌<◌, ◌*◌, ◌==◌};
-ghost use Rattle.std.specs.Prelude.{None, Some};
+ghost use Rattle.std.specs.Prelude.{◌≡◌, ◌≤◌, ◌<◌, ◌*◌, ◌==◌, None, Some};
 ghost use Rattle.flow_rule.specs.Violations.{number_of, violation_if};
 ghost use Rattle.flow_check.specs.internal.Violations.{before, lesser, noted};
 

@@ -519,8 +519,8 @@ no_fault t g m h apart room few =
   where
     steps : (a b c d e f g h i : Bool) (o : Option ℕ) → a ≡ false → b ≡ false → c ≡ false → d ≡ false → e ≡ false → f ≡ false → g ≡ false → h ≡ true → i ≡ true → o ≡ None
         → first_of (
-            then_some (a || b) Empty ∷ then_some (c || d) Odd ∷ option_map Overlap o ∷ then_some g (Overlap 0)
-            ∷ then_some (e || f) Reserved ∷ then_some (not h) Full ∷ then_some (not i) Spent ∷ []) ≡ None
+        then_some (a || b) Empty ∷ then_some (c || d) Odd ∷ option_map Overlap o ∷ then_some g (Overlap 0)
+        ∷ then_some (e || f) Reserved ∷ then_some (not h) Full ∷ then_some (not i) Spent ∷ []) ≡ None
     steps a b c d e f g h i o p1 p2 p3 p4 p5 p6 p7 p8 p9 p10 = rw (p1, p2, p3, p4, p10, p7, p5, p6, p8, p9) refl
 
 abbrev AllApart : List Module → List Module → Type 0

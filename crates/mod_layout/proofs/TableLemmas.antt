@@ -135,8 +135,8 @@ none_met text ram (x ∷ ms) e = by (meets text ram x) e (λ f. none_met text ra
 -- where there is no fault no test says so
 no_fault : (empty odd : Bool) (met : Option ℕ) (own reserved full spent : Bool) →
     first_of (
-        then_some empty Empty ∷ then_some odd Odd ∷ option_map Overlap met ∷ then_some own (Overlap 0)
-        ∷ then_some reserved Reserved ∷ then_some full Full ∷ then_some spent Spent ∷ []) ≡ None →
+    then_some empty Empty ∷ then_some odd Odd ∷ option_map Overlap met ∷ then_some own (Overlap 0)
+    ∷ then_some reserved Reserved ∷ then_some full Full ∷ then_some spent Spent ∷ []) ≡ None →
     (empty ≡ false) × (odd ≡ false) × (met ≡ None) × (own ≡ false) × (reserved ≡ false) × (full ≡ false) × (spent ≡ false)
 no_fault false false None false false false false e = (refl, refl, refl, refl, refl, refl, refl)
 no_fault _ _ _ _ _ _ _ e = absurd cc
@@ -166,8 +166,8 @@ pub record Taken (t : Table) (text ram : Section) : Type 0 where
 pub taken : (t : Table) (text ram : Section) → takes t text ram ≡ true → Taken t text ram
 taken t text ram e =
     let f =
-        no_fault (is_empty text || is_empty ram) (is_odd text || is_odd ram) (lowest_met text ram t.modules) (share_byte text ram)
-        (is_reserved text || is_reserved ram) (not (nat_lt (length t.modules) t.room)) (not (nat_lt t.given 65535)) (none_of (fault_of t text ram) e)
+    no_fault (is_empty text || is_empty ram) (is_odd text || is_odd ram) (lowest_met text ram t.modules) (share_byte text ram)
+    (is_reserved text || is_reserved ram) (not (nat_lt (length t.modules) t.room)) (not (nat_lt t.given 65535)) (none_of (fault_of t text ram) e)
     in
     let r = not-false (nat_lt (length t.modules) t.room) f.5 in
     let g = not-false (nat_lt t.given 65535) f.6 in
