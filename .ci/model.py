@@ -3,8 +3,8 @@
 
 At the top of the repository: .ci/model.py. It says where a crate names another's specs/internal, where a public clause
 reaches a definition there, where a definition outside is reached by none, and which file of the headline or of linking
-docs/MODEL.md leaves out, has before one that it uses, or gives another number of lines of the headline. Its status is 1
-where there is such a place.
+docs/MODEL.md leaves out, has before one that it uses, or gives another number of lines of the headline, and where
+README.md tells another sum of these. Its status is 1 where there is such a place.
 """
 import pathlib, re, sys
 
@@ -57,6 +57,10 @@ def model():
                 if str(other) in told and str(other) != path and str(other) not in seen:
                     yield f"docs/MODEL.md: {path} uses {other}, which comes later"
         seen.add(path)
+    counts = [int(lines) for _, lines in rows if lines]
+    told = f"take {len(counts)} files and {sum(counts):,} lines"
+    if told not in pathlib.Path("README.md").read_text():
+        yield f"README.md: the definitions of the headline {told}"
 
 
 reached.load()
