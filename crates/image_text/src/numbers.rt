@@ -24,7 +24,9 @@ pub(crate) const ROW_COUNT: usize = (65_536 - FIRST_ROW as usize) / 16;
 const MAX_COUNT: u64 = 32;
 
 // What the rules say of them: a changed number is refused here.
-const _: () = prove!(FIRST_ROW == 0x0200 && MAX_COUNT == 32 && MAX_VERSION == 999_999_999);
+const _: () = prove!(
+    FIRST_ROW == 0x0200 && BEFORE_ROWS == 0x01f0 && MAX_COUNT == 32 && MAX_VERSION == 999_999_999
+);
 
 const _: () = prove!(ROW_COUNT == 4_064);
 

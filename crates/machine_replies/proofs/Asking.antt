@@ -130,7 +130,7 @@ either_word false x y h g = g
 means_word : {w0 w1 w2 n : ℕ} {insn : Insn} → Means w0 w1 w2 insn n → IsWord w1 → IsWord w2 → IsWordInsn insn
 means_word (Means.format_one op s d e source destination) h g = (source_word source h, destination_word destination (either_word _ _ _ g h))
 means_word (Means.format_two op a e f source fits) h g = source_word source h
-means_word (Means.jump e) h g = tt
+means_word (Means.jump condition e code) h g = tt
 means_word _ h g = tt
 
 pub insn_word : (w0 w1 w2 : ℕ) (insn : Insn) → insn_of w0 w1 w2 ≡ Some insn → IsWord w1 → IsWord w2 → IsWordInsn insn
