@@ -6,8 +6,9 @@ ghost use Rattle.flow_rule.specs.declared.Label.{Label};
 ghost use Rattle.flow_rule.specs.Rounds.{join_in, join_all, Point as RulePoint, FlowStep};
 ghost use Rattle.flow_check.specs.internal.Points.{fronts_of, pair_of, list_of, label_at, points_at};
 ghost use Rattle.flow_check.specs.internal.Points.{point_at, points_of};
-ghost use Rattle.flow_check.specs.internal.Labellings.{mark_at, changed_points, changed_from, same_at, Covered, KeptPoints, NoMark};
-ghost use Rattle.flow_check.specs.internal.Labellings.{Reached, StillKept, MarksOne, joined_point};
+ghost use Rattle.flow_check.specs.internal.Labellings.{mark_at, changed_points, same_at, Listed, Fewer, KeptPoints, NoMark};
+ghost use Rattle.flow_check.specs.internal.Labellings.{Reached, StillKept, joined_point};
+ghost use Rattle.std.specs.List.Sorted.{IsNonDecreasing};
 
 use crate::call_string::CallString;
 use crate::domain::join_label;
@@ -15,9 +16,6 @@ use crate::point::Point;
 use flow_rule::{Label, Val};
 use std::alloc::{AllocError, Global};
 use std::marker::Model;
-
-/// How many program points a block has, and how many blocks there are.
-const BLOCK: usize = 128;
 
 /// A program point with its state, and whether that changed in the last iteration.
 #[derive(Clone, Copy)]
@@ -47,22 +45,22 @@ struct Hint {
 pub struct Labelling {
     nodes: Vec<Node>,
     hints: Vec<Hint>,
-    /// In which blocks of program points one may have changed.
-    blocks: [bool; 128],
+    /// The places of those that changed.
+    worklist: Vec<usize>,
 }
 
 impl Model for Labelling {
     ghost use Rattle.std.specs.Prelude.{List};
     ghost use Rattle.flow_check.specs.declared.labelling.Node.{Node};
     ghost use Rattle.flow_check.specs.internal.Points.{points_of};
-    ghost use Rattle.flow_check.specs.internal.Labellings.{Distinct, Covered};
+    ghost use Rattle.flow_check.specs.internal.Labellings.{Distinct, Listed};
 
     ghost Value = { List Node };
 
     ghost view = { λ l. l.nodes.items };
 
-    // no program point stands twice, and the block of one that changed is true
-    ghost invariant = { λ l. Distinct (points_of l.nodes.items) × Covered l.nodes.items l.blocks };
+    // no program point stands twice, and the place of one that changed is in the worklist
+    ghost invariant = { λ l. Distinct (points_of l.nodes.items) × Listed l.nodes.items l.worklist.items };
 }
 
 /// Whether one of these is this program point.
@@ -93,38 +91,81 @@ fn find(nodes: &[Node], point: &Point, hint: usize) -> usize
     nodes.len()
 }
 
-/// Joins a state to the state there, and tells whether it changed.
-#[tactic(auto, using(crate::proofs::Taking::set_same, crate::proofs::Taking::points_rise, crate::proofs::Taking::kept_rise, crate::proofs::Marked::set_marks))]
-fn raise(nodes: &mut Vec<Node>, at: usize, state: &Label) -> bool
+/// Joins a state to the state there, whose place is then in the worklist if it changed.
+#[tactic(auto, using(crate::proofs::Taking::set_same, crate::proofs::Taking::points_rise, crate::proofs::Taking::kept_rise, crate::proofs::Marked::listed_set, crate::proofs::Marked::listed_same))]
+fn raise(
+    nodes: &mut Vec<Node>,
+    worklist: &mut Vec<usize>,
+    at: usize,
+    state: &Label,
+) -> Result<(), AllocError>
     requires { at < length nodes.old.items }
     ensures points { (n : Node) → slice_get nodes.old.items at ≡ Some n → points_of nodes.new.items
         ≡ slice_set (points_of nodes.old.items) at (joined_point (point_at n.point) state.now) }
-    ensures same { result ≡ false → nodes.new.items ≡ nodes.old.items }
-    ensures marks { MarksOne at nodes.old.items nodes.new.items }
-    ensures kept { StillKept nodes.old.items nodes.new.items }
+    ensures listed { Listed nodes.old.items worklist.old.items → Listed nodes.new.items worklist.new.items }
+    ensures kept { IfOk result (λ _. StillKept nodes.old.items nodes.new.items) }
 {
     let node = &mut nodes[at];
-    let changed = join_label(&mut node.point.state, state);
-    if changed {
+    if join_label(&mut node.point.state, state) {
+        if !node.changed {
+            worklist.push(at)?;
+        }
         node.changed = true;
     }
-    changed
+    Ok(())
 }
 
-/// Says that a program point in the block of this one may have changed.
-#[tactic(auto, using(crate::proofs::Marked::covered_one))]
-fn cover(blocks: &mut [bool; 128], at: usize)
-    ensures { (old new : List Node) → MarksOne at old new → Covered old blocks.old → Covered new blocks.new }
+/// The point there, if it changed.
+#[tactic(auto, using(crate::proofs::Taking::node_is))]
+fn changed_at(nodes: &[Node], i: usize) -> Option<Changed>
+    ensures some { IfSome result (λ c. slice_get nodes.now i ≡ Some record { point = c.point; changed = true }) }
+    ensures none { result ≡ None → mark_at nodes.now i ≡ false }
 {
-    blocks[at / BLOCK % BLOCK] = true;
+    match nodes.get(i) {
+        Some(node) if node.changed => Some(Changed {
+            place: i,
+            point: node.point,
+        }),
+        Some(_) | None => None,
+    }
 }
 
-/// Says that no program point changed.
-#[tactic(auto, using(crate::proofs::Marked::covered_none))]
-fn uncover(blocks: &mut [bool; 128])
-    ensures { (nodes : List Node) → NoMark nodes → Covered nodes blocks.new }
+/// Moves the program point there to the front, if it changed.
+#[tactic(auto, using(crate::proofs::Taking::take_first, crate::proofs::Taking::points_cleared, crate::proofs::Taking::here_off, crate::proofs::Taking::fewer_set))]
+fn take_mark(nodes: &mut Vec<Node>, i: usize, front: &mut Vec<Changed>) -> Result<(), AllocError>
+    requires clear { (k : ℕ) → k < i → mark_at nodes.old.items k ≡ false }
+    ensures more { IfOk result (λ _. fronts_of front.old.items ++ changed_points nodes.old.items
+        ≡ fronts_of front.new.items ++ changed_points nodes.new.items) }
+    ensures points { points_of nodes.new.items ≡ points_of nodes.old.items }
+    ensures off { IfOk result (λ _. mark_at nodes.new.items i ≡ false) }
+    ensures fewer { Fewer nodes.old.items nodes.new.items }
 {
-    *blocks = [false; 128];
+    if let Some(changed) = changed_at(nodes.as_slice(), i) {
+        front.push(changed)?;
+        nodes[i].changed = false;
+    }
+    Ok(())
+}
+
+/// The same of the program points in these places.
+#[tactic(auto, using(crate::proofs::Taking::all_taken, crate::proofs::Marked::from_all, crate::proofs::Marked::none_below, crate::proofs::Marked::from_next, crate::proofs::Marked::from_end))]
+fn take_marks(
+    nodes: &mut Vec<Node>,
+    places: &[usize],
+    front: &mut Vec<Changed>,
+) -> Result<(), AllocError>
+    requires ascending { IsNonDecreasing places.now }
+    requires listed { Listed nodes.old.items places.now }
+    ensures more { IfOk result (λ _. fronts_of front.old.items ++ changed_points nodes.old.items
+        ≡ fronts_of front.new.items) }
+    ensures points { points_of nodes.new.items ≡ points_of nodes.old.items }
+    ensures clear { IfOk result (λ _. NoMark nodes.new.items) }
+    ensures fewer { Fewer nodes.old.items nodes.new.items }
+{
+    for at in places {
+        take_mark(nodes, *at, front)?;
+    }
+    Ok(())
 }
 
 impl Labelling {
@@ -138,7 +179,7 @@ impl Labelling {
         let mut all = Labelling {
             nodes: Vec::new(alloc),
             hints: Vec::new(alloc),
-            blocks: [false; 128],
+            worklist: Vec::new(alloc),
         };
         let point = Point {
             addr: start,
@@ -165,58 +206,8 @@ impl Labelling {
         self.nodes[i].point
     }
 
-    /// The point there, if it changed.
-    #[tactic(auto, using(crate::proofs::Taking::node_is))]
-    fn changed_at(&self, i: usize) -> Option<Changed>
-        ensures some { IfSome result (λ c. slice_get self.now i ≡ Some record { point = c.point; changed = true }) }
-        ensures none { result ≡ None → mark_at self.now i ≡ false }
-    {
-        match self.nodes.get(i) {
-            Some(node) if node.changed => Some(Changed {
-                place: i,
-                point: node.point,
-            }),
-            Some(_) | None => None,
-        }
-    }
-
-    /// Moves the program point there to the front, if it changed.
-    #[tactic(auto, using(crate::proofs::Taking::take_on, crate::proofs::Taking::take_off, crate::proofs::Taking::below_set, crate::proofs::Taking::below_off, crate::proofs::Taking::points_cleared, crate::proofs::Marked::covered_cleared))]
-    fn take_mark(&mut self, i: usize, front: &mut Vec<Changed>) -> Result<(), AllocError>
-        requires clear { (k : ℕ) → k < i → mark_at self.old k ≡ false }
-        ensures clear { IfOk result (λ _. (k : ℕ) → k < i + 1 → mark_at self.new k ≡ false) }
-        ensures more { IfOk result (λ _. fronts_of front.old.items ++ changed_from i self.old
-            ≡ fronts_of front.new.items ++ changed_from (i + 1) self.new) }
-        ensures points { points_of self.new ≡ points_of self.old }
-    {
-        if let Some(changed) = self.changed_at(i) {
-            front.push(changed)?;
-            self.nodes[i].changed = false;
-        }
-        Ok(())
-    }
-
-    /// The same of the program points of a block, where one may have changed.
-    #[tactic(auto, using(crate::proofs::Taking::skip_block, crate::proofs::Taking::below_block, crate::proofs::Marked::uncovered))]
-    fn take_block(&mut self, b: usize, front: &mut Vec<Changed>) -> Result<(), AllocError>
-        requires here { b < 128 }
-        requires clear { (k : ℕ) → k < 128 * b → mark_at self.old k ≡ false }
-        ensures clear { IfOk result (λ _. (k : ℕ) → k < 128 * (b + 1) → mark_at self.new k ≡ false) }
-        ensures more { IfOk result (λ _. fronts_of front.old.items ++ changed_from (128 * b) self.old
-            ≡ fronts_of front.new.items ++ changed_from (128 * (b + 1)) self.new) }
-        ensures points { points_of self.new ≡ points_of self.old }
-    {
-        if !self.blocks[b] {
-            return Ok(());
-        }
-        for i in BLOCK * b..BLOCK * (b + 1) {
-            self.take_mark(i, front)?;
-        }
-        Ok(())
-    }
-
     /// Moves the points that changed to the front, in order.
-    #[tactic(auto, using(crate::proofs::Taking::past_all, crate::proofs::Taking::none_left, crate::proofs::Taking::points_long))]
+    #[tactic(auto, using(crate::proofs::Marked::listed_sorted, crate::proofs::Marked::listed_fewer, crate::proofs::Marked::listed_none))]
     pub fn take_changed(&mut self, front: &mut Vec<Changed>) -> Result<(), AllocError>
         requires empty { front.old.items ≡ [] }
         requires few { length self.old ≤ 16384 }
@@ -224,34 +215,31 @@ impl Labelling {
         ensures points { points_of self.new ≡ points_of self.old }
         ensures clear { IfOk result (λ _. NoMark self.new) }
     {
-        for b in 0..BLOCK {
-            self.take_block(b, front)?;
-        }
-        uncover(&mut self.blocks);
+        self.worklist.sort_unstable();
+        take_marks(&mut self.nodes, self.worklist.as_slice(), front)?;
+        self.worklist.clear();
         Ok(())
     }
 
     /// Joins a point's state to that of its place.
     #[tactic(auto, using(crate::proofs::Labellings::joins_rise, crate::proofs::Labellings::distinct_rise))]
-    fn rise(&mut self, at: usize, point: &Point)
+    fn rise(&mut self, at: usize, point: &Point) -> Result<(), AllocError>
         requires { same_at (pair_of point.now) self.old at ≡ true }
         ensures joined { points_of self.new ≡ join_in (point_at point.now) (points_of self.old) }
-        ensures kept { StillKept self.old self.new }
+        ensures kept { IfOk result (λ _. StillKept self.old self.new) }
     {
-        if raise(&mut self.nodes, at, &point.state) {
-            cover(&mut self.blocks, at);
-        }
+        raise(&mut self.nodes, &mut self.worklist, at, &point.state)
     }
 
     /// One program point more.
-    #[tactic(auto, using(crate::proofs::Taking::kept_new, crate::proofs::Labellings::joins_new, crate::proofs::Labellings::distinct_new, crate::proofs::Marked::push_marks))]
+    #[tactic(auto, using(crate::proofs::Taking::kept_new, crate::proofs::Labellings::joins_new, crate::proofs::Labellings::distinct_new, crate::proofs::Marked::listed_push, crate::proofs::Marked::listed_more))]
     fn add(&mut self, point: &Point) -> Result<(), AllocError>
         requires { (k : ℕ) → k < length self.old → same_at (pair_of point.now) self.old k ≡ false }
         ensures added { IfOk result (λ _. self.new ≡ self.old ++ record { point = point.now; changed = true } ∷ []) }
         ensures joined { IfOk result (λ _. points_of self.new ≡ join_in (point_at point.now) (points_of self.old)) }
         ensures kept { IfOk result (λ _. StillKept self.old self.new) }
     {
-        let at = self.nodes.len();
+        self.worklist.push(self.nodes.len())?;
         self.hints.push(Hint {
             targets: [0, 0],
             summary: None,
@@ -260,7 +248,6 @@ impl Labelling {
             point: *point,
             changed: true,
         })?;
-        cover(&mut self.blocks, at);
         Ok(())
     }
 
@@ -271,7 +258,7 @@ impl Labelling {
     {
         let at = find(self.nodes.as_slice(), point, hint);
         if at < self.nodes.len() {
-            self.rise(at, point);
+            self.rise(at, point)?;
         } else {
             self.add(point)?;
         }

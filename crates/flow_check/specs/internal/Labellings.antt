@@ -1,5 +1,5 @@
 -- What is true of a labelling: no program point stands twice, and which states changed.
-use Rattle.std.specs.Prelude.{◌≡◌, ◌⊎◌, ◌<◌, ◌/◌, ◌%◌, ℕ, List, [], ◌∷◌, drop, get_or, slice_get, cond, AllPairs}
+use Rattle.std.specs.Prelude.{◌≡◌, ◌<◌, ℕ, List, [], ◌∷◌, slice_get, cond, AllPairs, Contains}
 use Rattle.std.specs.Prelude.{Bool, true, false, Option, Some, None}
 use Rattle.flow_rule.specs.declared.Label.{Label}
 use Rattle.flow_rule.specs.Absorbs.{Absorbs}
@@ -40,22 +40,18 @@ mark_at ns n = is_marked (slice_get ns n)
 abbrev pub NoMark : List Node → Type 0
 NoMark ns = (i : ℕ) → mark_at ns i ≡ false
 
--- the block of one that changed is true
-abbrev pub Covered : List Node → List Bool → Type 0
-Covered ns blocks = (i : ℕ) → mark_at ns i ≡ true → get_or blocks (i / 128 % 128) false ≡ true
+-- the places of those that changed are among these
+abbrev pub Listed : List Node → List ℕ → Type 0
+Listed ns places = (i : ℕ) → mark_at ns i ≡ true → Contains places i
 
--- no other than the one there changed meanwhile
-abbrev pub MarksOne : ℕ → List Node → List Node → Type 0
-MarksOne at old new = (i : ℕ) → mark_at new i ≡ true → (mark_at old i ≡ true) ⊎ (i ≡ at)
+-- no more changed than before
+abbrev pub Fewer : List Node → List Node → Type 0
+Fewer old new = (i : ℕ) → mark_at new i ≡ true → mark_at old i ≡ true
 
 -- those that changed
 abbrev pub changed_points : List Node → List Point
 changed_points [] = []
 changed_points (n ∷ ns) = cond n.changed (point_at n.point ∷ changed_points ns) (changed_points ns)
-
--- those that changed from here on
-abbrev pub changed_from : ℕ → List Node → List Point
-changed_from i ns = changed_points (drop i ns)
 
 -- joining this point changes nothing
 abbrev pub Subsumed : Point → List Point → Type 0

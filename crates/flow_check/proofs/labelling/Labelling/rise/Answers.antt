@@ -2,25 +2,11 @@ use Rattle.std.proofs.Common.{◌≡◌, ◌∙◌, ap, sym, subst, true}
 use Rattle.flow_rule.specs.Rounds.{join_in}
 use Rattle.flow_check.specs.internal.Points.{pair_of, point_at, points_of}
 use Rattle.flow_check.specs.internal.Labellings.{same_at}
-use Rattle.flow_check.proofs.Labellings.{joins_rise, distinct_rise}
+use Rattle.flow_check.proofs.Labellings.{joins_rise}
 use Rattle.flow_check.proofs.labelling.Labelling.rise.Goals as goal
 
-pub returns-then-raise-clause-joined : goal.returns-then-raise-clause-joined
-returns-then-raise-clause-joined c =
+pub returns-clause-joined : goal.returns-clause-joined
+returns-clause-joined c =
     let p = c.args.point.now in
     let there = subst (λ ns. same_at (pair_of p) ns c.args.at ≡ true) (sym c.self.view_is) c.requires in
     joins_rise p c.self.inside.nodes.items c.args.at c.self.invariant.0 there (points_of c.raise.new.nodes.items) c.raise.ensures.points ∙ ap (λ ns. join_in (point_at p) (points_of ns)) c.self.view_is
-
-pub returns-else-raise-clause-joined : goal.returns-else-raise-clause-joined
-returns-else-raise-clause-joined c =
-    let p = c.args.point.now in
-    let there = subst (λ ns. same_at (pair_of p) ns c.args.at ≡ true) (sym c.self.view_is) c.requires in
-    joins_rise p c.self.inside.nodes.items c.args.at c.self.invariant.0 there (points_of c.raise.new.nodes.items) c.raise.ensures.points ∙ ap (λ ns. join_in (point_at p) (points_of ns)) c.self.view_is
-
-pub invariant_of-self : goal.invariant_of-self
-invariant_of-self c =
-    let ns = c.self.inside.nodes.items in
-    let there = subst (λ ns. same_at (pair_of c.args.point.now) ns c.args.at ≡ true) (sym c.self.view_is) c.requires in (
-      distinct_rise c.args.point.now ns c.args.at c.self.invariant.0 there (points_of c.raise.new.nodes.items) c.raise.ensures.points,
-      c.cover.ensures ns c.raise.new.nodes.items c.raise.ensures.marks c.self.invariant.1,
-    )

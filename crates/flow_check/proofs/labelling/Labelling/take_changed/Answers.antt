@@ -1,21 +1,23 @@
-use Rattle.std.proofs.Common.{length, ap, sym, subst, arith}
-use Rattle.flow_check.specs.internal.Labellings.{NoMark}
-use Rattle.flow_check.proofs.Taking.{none_left, points_long}
+use Rattle.std.proofs.Common.{sym, subst}
+use Rattle.std.specs.List.Sorted.{IsNonDecreasing}
+use Rattle.std.proofs.lemmas.List.Sorted.{IsNonDecreasingBy-from_sort}
+use Rattle.flow_check.specs.internal.Points.{points_of}
+use Rattle.flow_check.specs.internal.Labellings.{Distinct, Listed}
+use Rattle.flow_check.proofs.Marked.{listed_fewer, listed_sorted}
 use Rattle.flow_check.proofs.labelling.Labelling.take_changed.Goals as goal
 
-pub returns-clause-clear : goal.returns-clause-clear
-returns-clause-clear c =
-    let same = ap length c.loop-b.invariant.0 in
-    let before = points_long c.args.self.now in
-    let after = points_long c.loop-b.self in
-    let past = c.loop-b-test.false in
-    subst NoMark (sym c.self.view_is) (none_left 16384 c.loop-b.self (λ k lt. c.loop-b.invariant.1 k (omega (arith, lt, past))) (omega (arith, same, before, after, c.requires.few)))
+pub take_marks-requires-clause-ascending : goal.take_marks-requires-clause-ascending
+take_marks-requires-clause-ascending c =
+    subst IsNonDecreasing (sym c.as_slice.ensures.value) (IsNonDecreasingBy-from_sort (λ x. x) c.sort_unstable.new.self.items c.sort_unstable.ensures.sorted)
+
+pub take_marks-requires-clause-listed : goal.take_marks-requires-clause-listed
+take_marks-requires-clause-listed c =
+    subst (Listed c.self.inside.nodes.items) (sym c.as_slice.ensures.value)
+    (listed_sorted c.self.inside.nodes.items c.self.inside.worklist.items c.sort_unstable.new.self.items c.sort_unstable.ensures.permutation c.self.invariant.1)
 
 pub invariant_of-self : goal.invariant_of-self
-invariant_of-self c =
-    let same = ap length c.loop-b.invariant.0 in
-    let before = points_long c.args.self.now in
-    let after = points_long c.loop-b.self in
-    let past = c.loop-b-test.false in
-    let none : NoMark c.loop-b.self = none_left 16384 c.loop-b.self (λ k lt. c.loop-b.invariant.1 k (omega (arith, lt, past))) (omega (arith, same, before, after, c.requires.few)) in
-    (c.self.invariant.0, c.uncover.ensures c.self.inside.nodes.items (subst NoMark (sym c.self.view_is) none))
+invariant_of-self c = (
+  subst Distinct (sym c.take_marks.ensures.points) c.self.invariant.0,
+  listed_fewer c.self.inside.nodes.items c.take_marks.new.nodes.items c.sort_unstable.new.self.items c.take_marks.ensures.fewer
+      (listed_sorted c.self.inside.nodes.items c.self.inside.worklist.items c.sort_unstable.new.self.items c.sort_unstable.ensures.permutation c.self.invariant.1),
+)
