@@ -1,7 +1,6 @@
 use Rattle.std.proofs.Common.{sym, subst}
 use Rattle.std.specs.List.Sorted.{IsNonDecreasing}
 use Rattle.std.proofs.lemmas.List.Sorted.{IsNonDecreasingBy-from_sort}
-use Rattle.flow_check.specs.internal.Points.{points_of}
 use Rattle.flow_check.specs.internal.Labellings.{Distinct, Listed}
 use Rattle.flow_check.proofs.Marked.{listed_fewer, listed_sorted}
 use Rattle.flow_check.proofs.labelling.Labelling.take_changed.Goals as goal
