@@ -78,10 +78,18 @@ impl CallString {
         is
     }
 
+    /// The addresses, the newest last.
+    pub fn as_slice(&self) -> &[u16]
+        ensures list { result.now ≡ list_of self.now }
+        ensures few { length result.now ≤ 8 }
+    {
+        &self.addrs[..self.len()]
+    }
+
     /// Whether two lists are the same.
     pub fn same(&self, other: &CallString) -> bool
         ensures { result ≡ pointwise nat_eq (list_of self.now) (list_of other.now) }
     {
-        self.addrs[..self.len()] == other.addrs[..other.len()]
+        self.as_slice() == other.as_slice()
     }
 }

@@ -1,20 +1,21 @@
 //! The labelling: the abstract state of each program point, and which of them changed.
 
 ghost use Rattle.std.specs.Prelude.{◌≡◌, ◌≤◌, ◌<◌, ◌+◌, ◌*◌, ◌++◌, ◌∷◌, [], length, drop, true, false, ℕ};
-ghost use Rattle.std.specs.Prelude.{List, Bool, IfSome, IfOk, Some, None, slice_get, slice_set};
+ghost use Rattle.std.specs.Prelude.{List, Bool, IfSome, IfOk, OnOk, Some, None, slice_get, slice_set};
 ghost use Rattle.flow_rule.specs.declared.Label.{Label};
-ghost use Rattle.flow_rule.specs.Rounds.{join_in, join_all, Point as RulePoint, FlowStep};
+ghost use Rattle.flow_rule.specs.Rounds.{join_in, join_all, Pair, Point as RulePoint, FlowStep};
 ghost use Rattle.flow_check.specs.internal.Points.{fronts_of, pair_of, list_of, label_at, points_at};
 ghost use Rattle.flow_check.specs.internal.Points.{point_at, points_of};
 ghost use Rattle.flow_check.specs.internal.Labellings.{mark_at, changed_points, same_at, Listed, Fewer, KeptPoints, NoMark};
-ghost use Rattle.flow_check.specs.internal.Labellings.{Reached, StillKept, joined_point};
+ghost use Rattle.flow_check.specs.internal.Labellings.{Absent, Placed, place_of, Reached, StillKept, joined_point};
 ghost use Rattle.std.specs.List.Sorted.{IsNonDecreasing};
 
 use crate::call_string::CallString;
 use crate::domain::join_label;
-use crate::point::Point;
+use crate::point::{Key, Point};
 use flow_rule::{Label, Val};
 use std::alloc::{AllocError, Global};
+use std::collections::BTreeMap;
 use std::marker::Model;
 
 /// A program point with its state, and whether that changed in the last iteration.
@@ -31,20 +32,14 @@ pub struct Changed {
     pub point: Point,
 }
 
-/// Where to look first.
-#[derive(Clone, Copy)]
-struct Hint {
-    /// For the first two program points that this one gave.
-    targets: [usize; 2],
-    /// For what is known of its arms.
-    summary: Option<usize>,
-}
-
 /// The program points with their states.
 #[derive(Drop)]
 pub struct Labelling {
     nodes: Vec<Node>,
-    hints: Vec<Hint>,
+    /// Where what is known of each one's arms is.
+    summaries: Vec<Option<usize>>,
+    /// The place of each program point.
+    places: BTreeMap<Key, usize>,
     /// The places of those that changed.
     worklist: Vec<usize>,
 }
@@ -52,15 +47,14 @@ pub struct Labelling {
 impl Model for Labelling {
     ghost use Rattle.std.specs.Prelude.{List};
     ghost use Rattle.flow_check.specs.declared.labelling.Node.{Node};
-    ghost use Rattle.flow_check.specs.internal.Points.{points_of};
-    ghost use Rattle.flow_check.specs.internal.Labellings.{Distinct, Listed};
+    ghost use Rattle.flow_check.specs.internal.Labellings.{Listed, Placed};
 
     ghost Value = { List Node };
 
     ghost view = { λ l. l.nodes.items };
 
-    // no program point stands twice, and the place of one that changed is in the worklist
-    ghost invariant = { λ l. Distinct (points_of l.nodes.items) × Listed l.nodes.items l.worklist.items };
+    // the map has the place of each program point, so that none stands twice, and the worklist those of them that changed
+    ghost invariant = { λ l. Placed l.nodes.items l.places × Listed l.nodes.items l.worklist.items };
 }
 
 /// Whether one of these is this program point.
@@ -73,26 +67,28 @@ fn same_at(nodes: &[Node], point: &Point, i: usize) -> bool
     }
 }
 
-/// The place of a program point, looked for first at a hint; the length where it is not there.
-#[tactic(auto, using(crate::proofs::Labellings::at_less))]
-fn find(nodes: &[Node], point: &Point, hint: usize) -> usize
-    ensures there { result < length nodes.now → same_at (pair_of point.now) nodes.now result ≡ true }
-    ensures absent { length nodes.now ≤ result → (k : ℕ) → k < length nodes.now →
-        same_at (pair_of point.now) nodes.now k ≡ false }
+/// The place that a map has of a program point.
+fn place(places: &BTreeMap<Key, usize>, point: &Point) -> Option<usize>
+    ensures { result ≡ place_of places.now (pair_of point.now) }
 {
-    if same_at(nodes, point, hint) {
-        return hint;
-    }
-    for i in 0..nodes.len() {
-        if same_at(nodes, point, i) {
-            return i;
-        }
-    }
-    nodes.len()
+    places.get(&point.key()).copied()
+}
+
+/// Notes the place of a program point that has none.
+fn note_place(
+    places: &mut BTreeMap<Key, usize>,
+    point: &Point,
+    at: usize,
+) -> Result<(), AllocError>
+    ensures placed { (ns : List Node) → Absent (pair_of point.now) ns → Placed ns places.old → Placed ns places.new }
+    ensures noted { OnOk result (place_of places.new (pair_of point.now) ≡ Some at) }
+{
+    places.insert(point.key(), at)?;
+    Ok(())
 }
 
 /// Joins a state to the state there, whose place is then in the worklist if it changed.
-#[tactic(auto, using(crate::proofs::Taking::set_same, crate::proofs::Taking::points_rise, crate::proofs::Taking::kept_rise, crate::proofs::Marked::listed_set, crate::proofs::Marked::listed_same))]
+#[tactic(auto, using(crate::proofs::Taking::set_same, crate::proofs::Taking::points_rise, crate::proofs::Taking::kept_rise, crate::proofs::Marked::listed_set, crate::proofs::Marked::listed_same, crate::proofs::Placing::same_pairs))]
 fn raise(
     nodes: &mut Vec<Node>,
     worklist: &mut Vec<usize>,
@@ -102,6 +98,7 @@ fn raise(
     requires { at < length nodes.old.items }
     ensures points { (n : Node) → slice_get nodes.old.items at ≡ Some n → points_of nodes.new.items
         ≡ slice_set (points_of nodes.old.items) at (joined_point (point_at n.point) state.now) }
+    ensures pairs { (p : Pair) (i : ℕ) → same_at p nodes.new.items i ≡ same_at p nodes.old.items i }
     ensures listed { Listed nodes.old.items worklist.old.items → Listed nodes.new.items worklist.new.items }
     ensures kept { IfOk result (λ _. StillKept nodes.old.items nodes.new.items) }
 {
@@ -170,7 +167,7 @@ fn take_marks(
 
 impl Labelling {
     /// The first program point with its state, which changed.
-    #[tactic(auto, using(crate::proofs::Verdicts::started))]
+    #[tactic(auto, using(crate::proofs::Verdicts::started, crate::proofs::Placing::placed_none))]
     pub fn begin(alloc: Global, start: u16, first: &Label) -> Result<Labelling, AllocError>
         ensures few { IfOk result (λ all. length all ≤ 16384) }
         ensures reached { IfOk result (λ all. (step : RulePoint → FlowStep) →
@@ -178,7 +175,8 @@ impl Labelling {
     {
         let mut all = Labelling {
             nodes: Vec::new(alloc),
-            hints: Vec::new(alloc),
+            summaries: Vec::new(alloc),
+            places: BTreeMap::new(alloc),
             worklist: Vec::new(alloc),
         };
         let point = Point {
@@ -207,7 +205,7 @@ impl Labelling {
     }
 
     /// Moves the points that changed to the front, in order.
-    #[tactic(auto, using(crate::proofs::Marked::listed_sorted, crate::proofs::Marked::listed_fewer, crate::proofs::Marked::listed_none))]
+    #[tactic(auto, using(crate::proofs::Marked::listed_sorted, crate::proofs::Marked::listed_fewer, crate::proofs::Marked::listed_none, crate::proofs::Placing::placed_points))]
     pub fn take_changed(&mut self, front: &mut Vec<Changed>) -> Result<(), AllocError>
         requires empty { front.old.items ≡ [] }
         requires few { length self.old ≤ 16384 }
@@ -222,7 +220,7 @@ impl Labelling {
     }
 
     /// Joins a point's state to that of its place.
-    #[tactic(auto, using(crate::proofs::Labellings::joins_rise, crate::proofs::Labellings::distinct_rise))]
+    #[tactic(auto, using(crate::proofs::Placing::placed_same))]
     fn rise(&mut self, at: usize, point: &Point) -> Result<(), AllocError>
         requires { same_at (pair_of point.now) self.old at ≡ true }
         ensures joined { points_of self.new ≡ join_in (point_at point.now) (points_of self.old) }
@@ -232,18 +230,17 @@ impl Labelling {
     }
 
     /// One program point more.
-    #[tactic(auto, using(crate::proofs::Taking::kept_new, crate::proofs::Labellings::joins_new, crate::proofs::Labellings::distinct_new, crate::proofs::Marked::listed_push, crate::proofs::Marked::listed_more))]
+    #[tactic(auto, using(crate::proofs::Taking::kept_new, crate::proofs::Labellings::joins_new, crate::proofs::Marked::listed_push, crate::proofs::Marked::listed_more, crate::proofs::Placing::placed_push))]
     fn add(&mut self, point: &Point) -> Result<(), AllocError>
         requires { (k : ℕ) → k < length self.old → same_at (pair_of point.now) self.old k ≡ false }
         ensures added { IfOk result (λ _. self.new ≡ self.old ++ record { point = point.now; changed = true } ∷ []) }
         ensures joined { IfOk result (λ _. points_of self.new ≡ join_in (point_at point.now) (points_of self.old)) }
         ensures kept { IfOk result (λ _. StillKept self.old self.new) }
     {
-        self.worklist.push(self.nodes.len())?;
-        self.hints.push(Hint {
-            targets: [0, 0],
-            summary: None,
-        })?;
+        let at = self.nodes.len();
+        self.worklist.push(at)?;
+        self.summaries.push(None)?;
+        note_place(&mut self.places, point, at)?;
         self.nodes.push(Node {
             point: *point,
             changed: true,
@@ -251,43 +248,33 @@ impl Labelling {
         Ok(())
     }
 
-    /// Joins a point's state to that of its place, and tells the place.
-    fn join_in(&mut self, point: &Point, hint: usize) -> Result<usize, AllocError>
+    /// The place of a program point, if it is there: where memory ran out, the map has one more.
+    #[tactic(auto, using(crate::proofs::Placing::absent_none, crate::proofs::Placing::absent_other))]
+    fn find(&self, point: &Point) -> Option<usize>
+        ensures there { IfSome result (λ i. same_at (pair_of point.now) self.now i ≡ true) }
+        ensures absent { result ≡ None → Absent (pair_of point.now) self.now }
+    {
+        match place(&self.places, point) {
+            Some(at) if same_at(self.nodes.as_slice(), point, at) => Some(at),
+            Some(_) | None => None,
+        }
+    }
+
+    /// Joins a point's state to that of its place.
+    fn join_in(&mut self, point: &Point) -> Result<(), AllocError>
         ensures joined { IfOk result (λ _. points_of self.new ≡ join_in (point_at point.now) (points_of self.old)) }
         ensures kept { IfOk result (λ _. StillKept self.old self.new) }
     {
-        let at = find(self.nodes.as_slice(), point, hint);
-        if at < self.nodes.len() {
-            self.rise(at, point)?;
-        } else {
-            self.add(point)?;
-        }
-        Ok(at)
-    }
-
-    /// The place to look first for the program point that another gave.
-    fn hint(&self, from: usize, k: usize) -> usize {
-        match self.hints.get(from) {
-            Some(found) => { if k < 2 { found.targets[k] } else { 0 } }
-            None => 0,
-        }
-    }
-
-    /// Where the program point that another gave is.
-    fn set_hint(&mut self, from: usize, k: usize, at: usize)
-        ensures { self.new ≡ self.old }
-    {
-        if let Some(found) = self.hints.get_mut(from)
-            && k < 2
-        {
-            found.targets[k] = at;
+        match self.find(point) {
+            Some(at) => self.rise(at, point),
+            None => self.add(point),
         }
     }
 
     /// Where what is known of a program point's arms is.
     pub fn summary(&self, at: usize) -> Option<usize> {
-        match self.hints.get(at) {
-            Some(found) => found.summary,
+        match self.summaries.get(at) {
+            Some(summary) => *summary,
             None => None,
         }
     }
@@ -296,8 +283,8 @@ impl Labelling {
     pub fn set_summary(&mut self, at: usize, summary: Option<usize>)
         ensures { self.new ≡ self.old }
     {
-        if let Some(found) = self.hints.get_mut(at) {
-            found.summary = summary;
+        if let Some(found) = self.summaries.get_mut(at) {
+            *found = summary;
         }
     }
 
@@ -305,8 +292,6 @@ impl Labelling {
     #[tactic(auto, using(crate::proofs::Points::take_more))]
     fn take_one(
         &mut self,
-        from: usize,
-        k: usize,
         to: u16,
         state: &mut Label,
         call_string: &CallString,
@@ -323,16 +308,12 @@ impl Labelling {
             call_string: *call_string,
             state: *state,
         };
-        let hint = self.hint(from, k);
-        let at = self.join_in(&point, hint)?;
-        self.set_hint(from, k, at);
-        Ok(())
+        self.join_in(&point)
     }
 
     /// Joins what a step gave.
     pub fn take(
         &mut self,
-        from: usize,
         state: &mut Label,
         targets: &[u16],
         call_string: &CallString,
@@ -341,8 +322,8 @@ impl Labelling {
             ≡ join_all (points_at targets.now (list_of call_string.now) state.old) (points_of self.old)) }
         ensures kept { IfOk result (λ _. StillKept self.old self.new) }
     {
-        for (k, to) in targets.iter().enumerate() {
-            self.take_one(from, k, *to, state, call_string)?;
+        for to in targets {
+            self.take_one(*to, state, call_string)?;
         }
         Ok(())
     }

@@ -2,10 +2,14 @@
 
 ghost use Rattle.std.specs.Prelude.{◌≡◌};
 ghost use Rattle.flow_rule.specs.Rounds.{same_pair};
-ghost use Rattle.flow_check.specs.internal.Points.{pair_of};
+ghost use Rattle.flow_check.specs.internal.Points.{key_of, pair_of};
 
 use crate::call_string::CallString;
+use arrayvec::ArrayVec;
 use flow_rule::Label;
+
+/// A program point's address and then its return addresses.
+pub type Key = ArrayVec<u16, 9>;
 
 /// A program point with its state.
 #[derive(Clone, Copy)]
@@ -21,5 +25,16 @@ impl Point {
         ensures { result ≡ same_pair (pair_of self.now) (pair_of other.now) }
     {
         self.addr == other.addr && self.call_string.same(&other.call_string)
+    }
+
+    /// Its address and return addresses.
+    pub fn key(&self) -> Key
+        ensures { result.items ≡ key_of (pair_of self.now) }
+    {
+        let mut key = ArrayVec::new();
+        key.push(self.addr);
+        // There are at most eight.
+        let _all_fit = key.try_extend_from_slice(self.call_string.as_slice());
+        key
     }
 }

@@ -38,7 +38,7 @@ fn give(
     all.set_summary(from, own);
     if stepped.least.is_none() {
         let targets = stepped.targets.as_slice();
-        all.take(from, &mut point.state, targets, &stepped.call_string)?;
+        all.take(&mut point.state, targets, &stepped.call_string)?;
     }
     Ok(())
 }

@@ -1,11 +1,15 @@
--- What is true of a labelling: no program point stands twice, and which states changed.
-use Rattle.std.specs.Prelude.{◌≡◌, ◌<◌, ℕ, List, [], ◌∷◌, slice_get, cond, AllPairs, Contains}
+-- What is true of a labelling: where each program point stands, and which states changed.
+use Rattle.std.specs.Prelude.{◌≡◌, ◌<◌, ℕ, List, [], ◌∷◌, length, slice_get, cond, Contains}
 use Rattle.std.specs.Prelude.{Bool, true, false, Option, Some, None}
+use Rattle.std.specs.BTreeMap.{BTreeMap, get_by}
+use Rattle.std.specs.Cmp.Lexicographic.{slice_cmp}
+use Rattle.std.specs.Ordering.{nat_cmp}
+use Rattle.arrayvec.specs.ArrayVec.{ArrayVec}
 use Rattle.flow_rule.specs.declared.Label.{Label}
 use Rattle.flow_rule.specs.Absorbs.{Absorbs}
 use Rattle.flow_rule.specs.Rounds.{Pair, Point, FlowStep, same_pair, join_label, given_by, rounds}
 use Rattle.flow_check.specs.declared.labelling.Node.{Node}
-use Rattle.flow_check.specs.internal.Points.{pair_of, point_at, points_of}
+use Rattle.flow_check.specs.internal.Points.{pair_of, key_of, point_at, points_of}
 use Rattle.flow_check.specs.internal.Weights.{weight_label}
 
 abbrev pub same_found : Pair → Option Node → Bool
@@ -16,13 +20,17 @@ same_found p (Some n) = same_pair (pair_of n.point) p
 abbrev pub same_at : Pair → List Node → ℕ → Bool
 same_at p ns n = same_found p (slice_get ns n)
 
--- another program point
-abbrev pub Other : Pair → Point → Type 0
-Other p x = same_pair x.pair p ≡ false
+-- none of these is this program point
+abbrev pub Absent : Pair → List Node → Type 0
+Absent p ns = (k : ℕ) → k < length ns → same_at p ns k ≡ false
 
--- no two of these are the same
-abbrev pub Distinct : List Point → Type 0
-Distinct xs = AllPairs (λ (x y : Point). Other x.pair y) xs
+-- the place that a map has of a program point
+abbrev pub place_of : BTreeMap (ArrayVec ℕ) ℕ → Pair → Option ℕ
+place_of places p = get_by (λ k. slice_cmp nat_cmp (key_of p) k.items) places
+
+-- it has that of each of these
+abbrev pub Placed : List Node → BTreeMap (ArrayVec ℕ) ℕ → Type 0
+Placed ns places = (p : Pair) (i : ℕ) → same_at p ns i ≡ true → place_of places p ≡ Some i
 
 -- a point to whose state another was joined
 abbrev pub joined_point : Point → Label → Point

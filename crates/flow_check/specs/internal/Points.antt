@@ -16,6 +16,10 @@ list_of r = take r.count r.addrs
 abbrev pub pair_of : CodePoint → Pair
 pair_of p = record { addr = p.addr; returns = list_of p.call_string }
 
+-- its address and then its return addresses
+abbrev pub key_of : Pair → List ℕ
+key_of p = p.addr ∷ p.returns
+
 -- the point at an address with these return addresses and this state
 abbrev pub point_of : ℕ → CallString → Label → Point
 point_of a r l = record { pair = record { addr = a; returns = list_of r }; label = l }

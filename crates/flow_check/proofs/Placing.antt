@@ -1,0 +1,110 @@
+-- The places of program points, by address and call string.
+use Rattle.std.proofs.Common.{◌≡◌, ◌⊎◌, inl, inr, ℕ, zero, suc, ◌<◌, List, [], ◌∷◌, ◌++◌, length, get_or, set, refl, sym, ap, ◌∙◌, subst, arith, Bool, true, false, cond, Option, Some, None}
+use Rattle.std.specs.Prelude.{bytes_eq}
+use Rattle.std.specs.List.{slice_get}
+use Rattle.std.specs.Option.{is_some}
+use Rattle.std.specs.BTreeMap.{BTreeMap, UpdatesBy, get_by}
+use Rattle.std.specs.Map.{lookup}
+use Rattle.std.specs.Cmp.Lexicographic.{slice_cmp}
+use Rattle.std.specs.Ordering.{nat_cmp, is_eq}
+use Rattle.std.specs.declared.cmp.Ordering.{Ordering}
+use Rattle.std.proofs.lemmas.Bool.{both_ways}
+use Rattle.std.proofs.lemmas.Option.{same_Some}
+use Rattle.std.proofs.lemmas.Map.Text.{is_eq-slice_cmp}
+use Rattle.arrayvec.specs.ArrayVec.{ArrayVec}
+use Rattle.flow_rule.specs.Rounds.{Pair, Point, same_pair}
+use Rattle.flow_check.specs.declared.point.Point.{Point as CodePoint}
+use Rattle.flow_check.specs.declared.labelling.Node.{Node}
+use Rattle.flow_check.specs.internal.Points.{pair_of, key_of, points_of}
+use Rattle.flow_check.specs.internal.Labellings.{same_at, Absent, place_of, Placed}
+use Rattle.flow_check.proofs.Labellings.{pair_is, at_less}
+
+-- the order of the keys
+abbrev pub key_cmp : ArrayVec ℕ → ArrayVec ℕ → Ordering
+key_cmp x y = slice_cmp nat_cmp x.items y.items
+
+-- ---- a map with one place more
+module _ (m n : BTreeMap (ArrayVec ℕ) ℕ) (key : ArrayVec ℕ) (p : Pair) (at : ℕ) (e : key.items ≡ key_of p) (u : UpdatesBy key_cmp (key_cmp key) m n (Some at)) where
+  pub place_noted : place_of n p ≡ Some at
+  place_noted = subst (λ (l : List ℕ). get_by (λ k. slice_cmp nat_cmp l k.items) n ≡ Some at) e u.1
+
+  places_of : (q : Pair) → place_of n q ≡ cond (same_pair p q) (Some at) (place_of m q)
+  places_of q =
+      let other : ArrayVec ℕ = record { items = key_of q } in
+      let is : is_eq (key_cmp key other) ≡ same_pair p q = is_eq-slice_cmp key.items (key_of q) ∙ ap (λ (l : List ℕ). bytes_eq l (key_of q)) e in
+      u.0 other ∙ ap (λ b. cond b (Some at) (place_of m q)) is
+
+  pub placed_noted : (ns : List Node) → Absent p ns → Placed ns m → Placed ns n
+  placed_noted ns none h q i f = places_of q ∙ ap (λ b. cond b (Some at) (place_of m q)) (other (same_pair p q) refl) ∙ h q i f
+    where
+      other : (b : Bool) → same_pair p q ≡ b → same_pair p q ≡ false
+      other false g = g
+      other true g = absurd (both_ways (same_at p ns i) (none i (at_less q ns i f)) (subst (λ r. same_at r ns i ≡ true) (sym (pair_is p q g)) f))
+
+-- the same entries
+pub placed_entries : (m n : BTreeMap (ArrayVec ℕ) ℕ) → n.entries ≡ m.entries → (ns : List Node) → Placed ns m → Placed ns n
+placed_entries m n e ns h q i f = ap (lookup (λ k. is_eq (slice_cmp nat_cmp (key_of q) k.items))) e ∙ h q i f
+
+-- ---- other program points
+pub placed_none : (places : BTreeMap (ArrayVec ℕ) ℕ) → Placed [] places
+placed_none places q i f = absurd cc
+
+pub same_pairs : (ns : List Node) (at : ℕ) (n d : Node) → pair_of n.point ≡ pair_of (get_or ns at d).point → (p : Pair) (i : ℕ) → same_at p (set ns at n) i ≡ same_at p ns i
+same_pairs (m ∷ ns) zero n d e p zero = ap (λ q. same_pair q p) e
+same_pairs (m ∷ ns) (suc at) n d e p (suc i) = same_pairs ns at n d e p i
+same_pairs _ at n d e p i = refl
+
+pub placed_same : (ns ms : List Node) (places : BTreeMap (ArrayVec ℕ) ℕ) → ((p : Pair) (i : ℕ) → same_at p ms i ≡ same_at p ns i) → Placed ns places → Placed ms places
+placed_same ns ms places e h q i f = h q i (sym (e q i) ∙ f)
+
+abbrev hit : Pair → Option Point → Bool
+hit p None = false
+hit p (Some x) = same_pair x.pair p
+
+same_hit : (p : Pair) (ns : List Node) (i : ℕ) → same_at p ns i ≡ hit p (slice_get (points_of ns) i)
+same_hit p [] i = refl
+same_hit p (n ∷ ns) zero = refl
+same_hit p (n ∷ ns) (suc i) = same_hit p ns i
+
+pub placed_points : (ns ms : List Node) (places : BTreeMap (ArrayVec ℕ) ℕ) → points_of ms ≡ points_of ns → Placed ns places → Placed ms places
+placed_points ns ms places e = placed_same ns ms places (λ p i. same_hit p ms i ∙ ap (λ xs. hit p (slice_get xs i)) e ∙ sym (same_hit p ns i))
+
+push_same : (q : Pair) (ns : List Node) (n : Node) (i : ℕ) → same_at q (ns ++ n ∷ []) i ≡ true → (same_at q ns i ≡ true) ⊎ ((i ≡ length ns) × (same_pair (pair_of n.point) q ≡ true))
+push_same q [] n zero f = inr (refl, f)
+push_same q (m ∷ ns) n (suc i) f = by (push_same q ns n i f)
+  where
+    by : (same_at q ns i ≡ true) ⊎ ((i ≡ length ns) × (same_pair (pair_of n.point) q ≡ true)) → (same_at q ns i ≡ true) ⊎ ((suc i ≡ suc (length ns)) × (same_pair (pair_of n.point) q ≡ true))
+    by (inl g) = inl g
+    by (inr g) = inr (ap suc g.0, g.1)
+push_same q _ n i f = inl f
+
+pub placed_push : (ns : List Node) (places : BTreeMap (ArrayVec ℕ) ℕ) (p : CodePoint) → place_of places (pair_of p) ≡ Some (length ns) → Placed ns places →
+    Placed (ns ++ record { point = p; changed = true } ∷ []) places
+placed_push ns places p noted h q i f = by (push_same q ns record { point = p; changed = true } i f)
+  where
+    by : (same_at q ns i ≡ true) ⊎ ((i ≡ length ns) × (same_pair (pair_of p) q ≡ true)) → place_of places q ≡ Some i
+    by (inl g) = h q i g
+    by (inr g) = subst (λ r. place_of places r ≡ Some i) (pair_is (pair_of p) q g.1) (noted ∙ ap (λ k. Some k) (sym g.0))
+
+-- ---- what the map tells
+module _ (p : Pair) (ns : List Node) (places : BTreeMap (ArrayVec ℕ) ℕ) (h : Placed ns places) where
+  pub first_there : (i : ℕ) → same_at p ns i ≡ true → (k : ℕ) → k < i → same_at p ns k ≡ false
+  first_there i s k lt = by (same_at p ns k) refl
+    where
+      by : (b : Bool) → same_at p ns k ≡ b → same_at p ns k ≡ false
+      by false f = f
+      by true f = let same : k ≡ i = same_Some k i (sym (h p k f) ∙ h p i s) in absurd (omega (arith, same, lt))
+
+  pub absent_none : place_of places p ≡ None → Absent p ns
+  absent_none e k lt = by (same_at p ns k) refl
+    where
+      by : (b : Bool) → same_at p ns k ≡ b → same_at p ns k ≡ false
+      by false f = f
+      by true f = absurd (both_ways (is_some (place_of places p)) (ap is_some e) (ap is_some (h p k f)))
+
+  pub absent_other : (at : ℕ) → place_of places p ≡ Some at → same_at p ns at ≡ false → Absent p ns
+  absent_other at e off k lt = by (same_at p ns k) refl
+    where
+      by : (b : Bool) → same_at p ns k ≡ b → same_at p ns k ≡ false
+      by false f = f
+      by true f = let same : at ≡ k = same_Some at k (sym e ∙ h p k f) in absurd (both_ways (same_at p ns k) (subst (λ i. same_at p ns i ≡ false) same off) f)
