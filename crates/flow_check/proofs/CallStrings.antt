@@ -1,13 +1,13 @@
--- Lists of return addresses.
+-- Call strings.
 use Rattle.std.proofs.Common.{◌≡◌, ℕ, ◌-◌, ◌<◌, List, [], ◌∷◌, length, take, get_or, refl, sym, ap, ◌∙◌, arith, true, false, nat_lt, ◌==◌, ◌&&◌}
 use Rattle.std.proofs.lemmas.Bool.Decides.{nat_tests}
 use Rattle.std.proofs.lemmas.List.{get_or-take, length-take, take-take}
 use Rattle.flow_rule.specs.declared.Val.{Val}
 use Rattle.flow_rule.specs.declared.Val.TheVariants.{Known}
-use Rattle.flow_rule.specs.Returns.{last_is, without_newest}
+use Rattle.flow_rule.specs.CallStrings.{last_is, pop_call}
 use Rattle.flow_check.specs.internal.Carries.{is_number}
 
-pub but_of : (n k : ℕ) (xs : List ℕ) → k ≡ length (take n xs) → take (k - 1) xs ≡ without_newest (take n xs)
+pub but_of : (n k : ℕ) (xs : List ℕ) → k ≡ length (take n xs) → take (k - 1) xs ≡ pop_call (take n xs)
 but_of n k xs e =
     let few = length-take n xs in
     sym (take-take (k - 1) n xs (omega (arith, e, few))) ∙ ap (λ k. take (k - 1) (take n xs)) e
@@ -27,6 +27,6 @@ last_none (Known v) [] e = refl
 last_none u (z ∷ zs) e = absurd (omega (arith, e))
 last_none _ [] e = refl
 
-pub but_none : (zs : List ℕ) → 0 ≡ length zs → zs ≡ without_newest zs
+pub but_none : (zs : List ℕ) → 0 ≡ length zs → zs ≡ pop_call zs
 but_none [] e = let none : List ℕ = [] in ap (λ k. take k none) (let f : 0 ≡ length none - 1 = omega arith in f)
 but_none (z ∷ zs) e = absurd (omega (arith, e))

@@ -1,12 +1,12 @@
--- What was clobbered of a blank label, laid over another label's values, is these values clobbered.
+-- What was clobbered of a blank state, laid over another state's values, is these values clobbered.
 use Rattle.std.proofs.Common.{◌≡◌, ℕ, zero, suc, List, [], ◌∷◌, length, set, refl, ap, ◌∙◌, arith, Bool, true, false, cond, ◌==◌}
 use Rattle.std.specs.Prelude.{replicate}
-use Rattle.flow_rule.specs.declared.Label.{Label}
+use Rattle.flow_rule.specs.declared.AbstractState.{AbstractState}
 use Rattle.flow_rule.specs.declared.Val.{Val}
 use Rattle.flow_rule.specs.declared.Val.TheVariants.{Known, Public, Secret}
 use Rattle.flow_rule.specs.Values.{set_each, kept_val, put_val}
 use Rattle.flow_rule.specs.Arms.{Walk, Meets, Stops, clobbered_core, clobbered_by}
-use Rattle.flow_check.specs.internal.Summaries.{blank_label, laid, overlay}
+use Rattle.flow_check.specs.internal.Summaries.{blank_state, laid, overlay}
 
 over_set : (b c : List Val) (n : ℕ) (v : Val) → ((x : Val) → laid v x ≡ v) →
     overlay (set b n v) c ≡ set (overlay b c) n v
@@ -40,16 +40,16 @@ over_public zero (x ∷ c) e = absurd (omega arith)
 over_public (suc n) [] e = absurd (omega arith)
 over_public (suc n) (x ∷ c) e = ap (λ i. x ∷ i) (over_public n c (omega arith))
 
--- a label over another
-abbrev pub over : Label → Label → Label
+-- a state over another
+abbrev pub over : AbstractState → AbstractState → AbstractState
 over b l = record { core = overlay b.core l.core; words = overlay b.words l.words }
 
-over_blank : (l : Label) → length l.core ≡ 16 → length l.words ≡ 256 → over blank_label l ≡ l
+over_blank : (l : AbstractState) → length l.core ≡ 16 → length l.words ≡ 256 → over blank_state l ≡ l
 over_blank l core words =
-    ap (λ v. record { core = v; words = overlay blank_label.words l.words }) (over_public 16 l.core core)
+    ap (λ v. record { core = v; words = overlay blank_state.words l.words }) (over_public 16 l.core core)
     ∙ ap (λ v. record l { words = v }) (over_public 256 l.words words)
 
-over_clobbered : (w : Walk) (b l : Label) → over (clobbered_by w b) l ≡ clobbered_by w (over b l)
+over_clobbered : (w : Walk) (b l : AbstractState) → over (clobbered_by w b) l ≡ clobbered_by w (over b l)
 over_clobbered (Meets cycles regs words) b l =
     let ws = overlay (set_each words Secret b.words) l.words in
     ap (λ v. record { core = v; words = ws }) (over_core regs b.core l.core)
@@ -57,7 +57,7 @@ over_clobbered (Meets cycles regs words) b l =
     (over_words words b.words l.words)
 over_clobbered (Stops addr) b l = refl
 
-pub over_both : (w0 w1 : Walk) (l : Label) → length l.core ≡ 16 → length l.words ≡ 256 →
-    over (clobbered_by w1 (clobbered_by w0 blank_label)) l ≡ clobbered_by w1 (clobbered_by w0 l)
+pub over_both : (w0 w1 : Walk) (l : AbstractState) → length l.core ≡ 16 → length l.words ≡ 256 →
+    over (clobbered_by w1 (clobbered_by w0 blank_state)) l ≡ clobbered_by w1 (clobbered_by w0 l)
 over_both w0 w1 l core words =
-    over_clobbered w1 (clobbered_by w0 blank_label) l ∙ ap (clobbered_by w1) (over_clobbered w0 blank_label l ∙ ap (clobbered_by w0) (over_blank l core words))
+    over_clobbered w1 (clobbered_by w0 blank_state) l ∙ ap (clobbered_by w1) (over_clobbered w0 blank_state l ∙ ap (clobbered_by w0) (over_blank l core words))

@@ -9,16 +9,16 @@ use Rattle.flow_check.specs.declared.program.Program.{Program}
 use Rattle.flow_check.specs.internal.Programs.{flow_at, untaken_walk, taken_walk}
 use Rattle.flow_check.specs.internal.Terms.{terms_in}
 use Rattle.flow_rule.specs.declared.Val.{Val}
-use Rattle.flow_rule.specs.declared.Label.{Label}
+use Rattle.flow_rule.specs.declared.AbstractState.{AbstractState}
 use Rattle.flow_rule.specs.declared.Reason.TheVariants.{Arm as ArmInsn}
 use Rattle.flow_rule.specs.Violations.{violation_if}
-use Rattle.flow_rule.specs.Rounds.{RuleViolation, Point, FlowStep, given_by}
+use Rattle.flow_rule.specs.Iterations.{RuleViolation, PointState, FlowStep, given_by}
 use Rattle.flow_rule.specs.Arms.{Walk, clobbered_by, arm_violations}
 use Rattle.flow_rule.specs.Absorbs.{Absorbs, ArmsRest}
 use Rattle.flow_check.specs.declared.branch.BranchSite.{BranchSite}
 use Rattle.flow_check.specs.declared.summaries.Answer.TheVariants.{Open, Shut}
 use Rattle.flow_check.specs.declared.summaries.Summary.{Summary}
-use Rattle.flow_check.specs.internal.Summaries.{laid, overlay, clobbered, blank_label, branch_from, OpensTo, ComesTo, IsSummary, AreSummaries}
+use Rattle.flow_check.specs.internal.Summaries.{laid, overlay, clobbered, blank_state, branch_from, OpensTo, ComesTo, IsSummary, AreSummaries}
 use Rattle.flow_check.specs.declared.violation.Violation.{Violation}
 use Rattle.flow_check.specs.declared.call_string.CallString.{CallString}
 use Rattle.flow_check.specs.internal.Violations.{noted}
@@ -32,7 +32,7 @@ violations_by m c pc w0 w1 =
     violation_if (not (holds m.text c.arm.join)) pc ArmInsn c.arm.join
     ++ arm_violations pc c.arm.cycles 0 w0 ++ arm_violations pc c.arm.cycles 1 w1
 
-module _ (rest : ArmsRest) (p : Program) (c : BranchSite) (top x : Point) (pc : x.pair.addr ≡ top.pair.addr) (h : Absorbs top.label x.label) (calm : (flow_at p c top).violations ≡ [])
+module _ (rest : ArmsRest) (p : Program) (c : BranchSite) (top x : PointState) (pc : x.point.addr ≡ top.point.addr) (h : Absorbs top.state x.state) (calm : (flow_at p c top).violations ≡ [])
   where
     same : (untaken_walk p c x ≡ untaken_walk p c top) × (taken_walk p c x ≡ taken_walk p c top)
     same = rest (terms_in p) p.module.now p.text.now c.insn c.target c.arm top x p.exact.even pc h calm
@@ -41,36 +41,36 @@ module _ (rest : ArmsRest) (p : Program) (c : BranchSite) (top x : Point) (pc : 
     unfolding violations_by
     calm_too =
         ap (λ a. violations_by p.module.now c a (untaken_walk p c x) (taken_walk p c x)) pc
-        ∙ ap (λ w. violations_by p.module.now c top.pair.addr w (taken_walk p c x)) same.0
-        ∙ ap (λ w. violations_by p.module.now c top.pair.addr (untaken_walk p c top) w) same.1 ∙ calm
+        ∙ ap (λ w. violations_by p.module.now c top.point.addr w (taken_walk p c x)) same.0
+        ∙ ap (λ w. violations_by p.module.now c top.point.addr (untaken_walk p c top) w) same.1 ∙ calm
 
-    pub clobbered_too : (l : Label) → clobbered p c x l ≡ clobbered p c top l
+    pub clobbered_too : (l : AbstractState) → clobbered p c x l ≡ clobbered p c top l
     clobbered_too l =
         ap (λ w. clobbered_by (taken_walk p c x) (clobbered_by w l)) same.0
         ∙ ap (λ w. clobbered_by w (clobbered_by (untaken_walk p c top) l)) same.1
 
 -- an open summary, of a state that it subsumes
-pub opens : ArmsRest → (p : Program) (s : Summary) (told : Label) → s.answer ≡ Open told → IsSummary p s → (c : BranchSite) (pc : ℕ) (returns : List ℕ) (l l1 : Label) → s.branch ≡ pc → s.site ≡ c → Absorbs s.state l →
-    length l.core ≡ 16 → length l.words ≡ 256 → l1 ≡ record { core = overlay told.core l.core; words = overlay told.words l.words } → OpensTo p c (branch_from pc returns l) l1
-opens rest p s told e is c pc returns l l1 eb ec h core words el =
-    let b : Point = branch_from s.branch [] s.state in
-    let x : Point = branch_from pc returns l in
-    let it : ((flow_at p s.site b).violations ≡ []) × (told ≡ clobbered p s.site b blank_label) = subst (ComesTo p s.site b) e is in
+pub opens : ArmsRest → (p : Program) (s : Summary) (told : AbstractState) → s.answer ≡ Open told → IsSummary p s → (c : BranchSite) (pc : ℕ) (call_string : List ℕ) (l l1 : AbstractState) → s.branch ≡ pc → s.site ≡ c → Absorbs s.state l →
+    length l.core ≡ 16 → length l.words ≡ 256 → l1 ≡ record { core = overlay told.core l.core; words = overlay told.words l.words } → OpensTo p c (branch_from pc call_string l) l1
+opens rest p s told e is c pc call_string l l1 eb ec h core words el =
+    let b : PointState = branch_from s.branch [] s.state in
+    let x : PointState = branch_from pc call_string l in
+    let it : ((flow_at p s.site b).violations ≡ []) × (told ≡ clobbered p s.site b blank_state) = subst (ComesTo p s.site b) e is in
     let calm : (flow_at p c b).violations ≡ [] = subst (λ c. (flow_at p c b).violations ≡ []) ec it.0 in
-    let same : told ≡ clobbered p c b blank_label = it.1 ∙ ap (λ c. clobbered p c b blank_label) ec in (
+    let same : told ≡ clobbered p c b blank_state = it.1 ∙ ap (λ c. clobbered p c b blank_state) ec in (
       calm_too rest p c b x (sym eb) h calm,
-      el ∙ ap (λ t. over t l) (same ∙ sym (clobbered_too rest p c b x (sym eb) h calm blank_label))
+      el ∙ ap (λ t. over t l) (same ∙ sym (clobbered_too rest p c b x (sym eb) h calm blank_state))
           ∙ over_both (untaken_walk p c x) (taken_walk p c x) l core words,
     )
 
 -- a shut one, of a state that subsumes its own
-pub shuts : ArmsRest → (p : Program) (s : Summary) → s.answer ≡ Shut → IsSummary p s → (c : BranchSite) (pc : ℕ) (returns : List ℕ) (l : Label) → s.branch ≡ pc → s.site ≡ c → Absorbs l s.state →
-    (flow_at p c (branch_from pc returns l)).violations ≢ []
-shuts rest p s e is c pc returns l eb ec h = λ none.
-    let b : Point = branch_from s.branch [] s.state in
+pub shuts : ArmsRest → (p : Program) (s : Summary) → s.answer ≡ Shut → IsSummary p s → (c : BranchSite) (pc : ℕ) (call_string : List ℕ) (l : AbstractState) → s.branch ≡ pc → s.site ≡ c → Absorbs l s.state →
+    (flow_at p c (branch_from pc call_string l)).violations ≢ []
+shuts rest p s e is c pc call_string l eb ec h = λ none.
+    let b : PointState = branch_from s.branch [] s.state in
     let it : (flow_at p s.site b).violations ≢ [] = subst (ComesTo p s.site b) e is in
     it (subst (λ c. (flow_at p c b).violations ≡ []) (sym ec)
-    (calm_too rest p c (branch_from pc returns l) b eb h none))
+    (calm_too rest p c (branch_from pc call_string l) b eb h none))
 
 -- one summary more, or another in its place
 pub kept_push : (p : Program) (ss ts : List Summary) (s : Summary) → ts ≡ ss ++ s ∷ [] → IsSummary p s → AreSummaries p ss → AreSummaries p ts
@@ -84,20 +84,20 @@ pub kept_there : (p : Program) (ss : List Summary) (i : ℕ) (s : Summary) → s
 kept_there p ss i s e all = subst (IsSummary p) (get_or_from_slice_get ss i s s e) (all i s (slice_get_within ss i s e))
 
 -- what a walk told
-pub walked_open : (p : Program) (c : BranchSite) (pc : ℕ) (r : CallString) (l told0 told : Label) (least : Option Violation) → list_of r ≡ [] → told0 ≡ blank_label →
+pub walked_open : (p : Program) (c : BranchSite) (pc : ℕ) (r : CallString) (l told0 told : AbstractState) (least : Option Violation) → list_of r ≡ [] → told0 ≡ blank_state →
     least ≡ noted (flow_at p c (point_of pc r l)).violations None → told ≡ clobbered p c (point_of pc r l) told0 → is_some least ≡ false → ComesTo p c (branch_from pc [] l) (Open told)
 walked_open p c pc r l told0 told least er eb el et e =
     let calm : (flow_at p c (branch_from pc (list_of r) l)).violations ≡ [] = none_found (flow_at p c (point_of pc r l)).violations (sym el ∙ none_some least e) in (
       subst (λ rs. (flow_at p c (branch_from pc rs l)).violations ≡ []) er calm,
-      et ∙ ap (λ b. clobbered p c (branch_from pc (list_of r) l) b) eb ∙ ap (λ rs. clobbered p c (branch_from pc rs l) blank_label) er,
+      et ∙ ap (λ b. clobbered p c (branch_from pc (list_of r) l) b) eb ∙ ap (λ rs. clobbered p c (branch_from pc rs l) blank_state) er,
     )
 
 -- ---- the step of a program point
 
 -- a branch without a violation
-pub site_successors : (p : Program) (c : BranchSite) (x : Point) (s : FlowStep) (l : Label) → s ≡ flow_at p c x → l ≡ clobbered p c x x.label → s.gives ≡ points_at (addrs_of s.gives) x.pair.returns l
+pub site_successors : (p : Program) (c : BranchSite) (x : PointState) (s : FlowStep) (l : AbstractState) → s ≡ flow_at p c x → l ≡ clobbered p c x x.state → s.gives ≡ points_at (addrs_of s.gives) x.point.call_string l
 site_successors p c x s l same e =
-    subst (λ s. s.gives ≡ points_at (addrs_of s.gives) x.pair.returns l) (sym same) (ap (λ l. points_at (c.arm.join ∷ []) x.pair.returns l) (sym e))
+    subst (λ s. s.gives ≡ points_at (addrs_of s.gives) x.point.call_string l) (sym same) (ap (λ l. points_at (c.arm.join ∷ []) x.point.call_string l) (sym e))
 
 -- one with a violation
 pub stirred : (s t : FlowStep) → s ≡ t → t.violations ≢ [] → given_by s ≡ []

@@ -1,8 +1,8 @@
 -- What the changed program points give, one after another.
 use Rattle.std.proofs.Common.{◌≡◌, ℕ, List, [], ◌∷◌, refl, sym, ap, ◌∙◌, Bool, true, false, Option, Some, None, is_some}
 use Rattle.flow_check.proofs.Iterating.{join_append}
-use Rattle.flow_rule.specs.declared.Label.{Label}
-use Rattle.flow_rule.specs.Rounds.{RuleViolation, FlowStep, Point, join_all, given_by, given_points}
+use Rattle.flow_rule.specs.declared.AbstractState.{AbstractState}
+use Rattle.flow_rule.specs.Iterations.{RuleViolation, FlowStep, PointState, join_all, given_by, given_points}
 use Rattle.flow_check.specs.declared.violation.Violation.{Violation}
 use Rattle.flow_check.specs.internal.Violations.{lesser, lesser_if, noted, violation_of}
 use Rattle.flow_check.specs.internal.Points.{addrs_of, points_at}
@@ -52,7 +52,7 @@ successors_all s e = by s.violations e
     by (x ∷ xs) e = absurd cc
 
 -- a program point without a violation
-pub give_some : (step : Point → FlowStep) (x : Point) (more : List Point) (ts rs : List ℕ) (l : Label) (ps qs : List Point) → (step x).violations ≡ [] → ts ≡ addrs_of (step x).gives →
+pub give_some : (step : PointState → FlowStep) (x : PointState) (more : List PointState) (ts rs : List ℕ) (l : AbstractState) (ps qs : List PointState) → (step x).violations ≡ [] → ts ≡ addrs_of (step x).gives →
     ((step x).violations ≡ [] → (step x).gives ≡ points_at (addrs_of (step x).gives) rs l) → qs ≡ join_all (points_at ts rs l) ps →
     join_all (given_points step (x ∷ more)) ps ≡ join_all (given_points step more) qs
 give_some step x more ts rs l ps qs calm et eg eq =
@@ -61,7 +61,7 @@ give_some step x more ts rs l ps qs calm et eg eq =
     ∙ ap (join_all (given_points step more)) (sym eq)
 
 -- a program point with one
-pub give_none : (step : Point → FlowStep) (x : Point) (more : List Point) (ps : List Point) → given_by (step x) ≡ [] →
+pub give_none : (step : PointState → FlowStep) (x : PointState) (more : List PointState) (ps : List PointState) → given_by (step x) ≡ [] →
     join_all (given_points step (x ∷ more)) ps ≡ join_all (given_points step more) ps
 give_none step x more ps e =
     join_append (given_by (step x)) (given_points step more) ps ∙ ap (λ g. join_all (given_points step more) (join_all g ps)) e

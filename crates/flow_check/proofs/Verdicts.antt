@@ -4,14 +4,14 @@ use Rattle.std.proofs.lemmas.Bool.Decides.{nat_tests}
 use Rattle.std.proofs.lemmas.Bool.{ltb-true, ltb-false, eqb-true, both_ways}
 use Rattle.std.proofs.Math.ListN.{drop_of_length-le}
 use Rattle.flow_rule.specs.declared.Reason.TheVariants.{TooMany}
-use Rattle.flow_rule.specs.declared.Label.{Label}
+use Rattle.flow_rule.specs.declared.AbstractState.{AbstractState}
 use Rattle.flow_rule.specs.declared.Verdict.{Verdict}
 use Rattle.flow_rule.specs.declared.Verdict.TheVariants.{No}
-use Rattle.flow_rule.specs.Rounds.{RuleViolation, Point, FlowStep, join_all, given_points, IsLabelling, all_violations}
+use Rattle.flow_rule.specs.Iterations.{RuleViolation, PointState, FlowStep, join_all, given_points, IsLabelling, all_violations}
 use Rattle.flow_rule.specs.Violations.{number_of, NotAfter, BeforeAll, AmongThem}
 use Rattle.flow_rule.specs.Verdict.{Decided}
 use Rattle.flow_check.specs.declared.violation.Violation.{Violation}
-use Rattle.flow_check.specs.declared.point.Point.{Point as CodePoint}
+use Rattle.flow_check.specs.declared.point.Point.{Point}
 use Rattle.flow_check.specs.declared.labelling.Node.{Node}
 use Rattle.flow_check.specs.declared.labelling.Changed.{Changed}
 use Rattle.flow_check.specs.declared.call_string.CallString.{CallString}
@@ -120,22 +120,22 @@ least_noted (r ∷ rs) o xs h =
     (least_noted rs (lesser o (violation_of r)) (xs ++ r ∷ []) (least_one o (violation_of r) xs h))
 
 -- ---- the code's loop
-pub least_more : (step : Point → FlowStep) (i : ℕ) (ns : List Node) (p : CodePoint) (o r : Option Violation) → points_of (drop i ns) ≡ point_at p ∷ points_of (drop (i + 1) ns) → r ≡ noted (step (point_at p)).violations o →
+pub least_more : (step : PointState → FlowStep) (i : ℕ) (ns : List Node) (p : Point) (o r : Option Violation) → points_of (drop i ns) ≡ point_at p ∷ points_of (drop (i + 1) ns) → r ≡ noted (step (point_at p)).violations o →
     noted (all_violations step (points_of (drop i ns))) o ≡ noted (all_violations step (points_of (drop (i + 1) ns))) r
 least_more step i ns p o r here e =
     ap (λ xs. noted (all_violations step xs) o) here ∙ noted_append (step (point_at p)).violations (all_violations step (points_of (drop (i + 1) ns))) o
     ∙ ap (noted (all_violations step (points_of (drop (i + 1) ns)))) (sym e)
 
-pub least_end : (step : Point → FlowStep) (n : ℕ) (ns : List Node) (o : Option Violation) → length ns ≤ n → noted (all_violations step (points_of (drop n ns))) o ≡ o
+pub least_end : (step : PointState → FlowStep) (n : ℕ) (ns : List Node) (o : Option Violation) → length ns ≤ n → noted (all_violations step (points_of (drop n ns))) o ≡ o
 least_end step n ns o h = ap (λ p. noted (all_violations step (points_of p)) o) (drop_of_length-le ns {i = n} h)
 
 -- ---- the verdict
-pub decided_rest : (step : Point → FlowStep) (start : Point) (begin : ℕ) (ns : List Node) (o : Option Violation) (v : Verdict) → length ns ≤ 16384 → v ≡ verdict_of o → o ≡ noted (all_violations step (points_of ns)) None →
+pub decided_rest : (step : PointState → FlowStep) (start : PointState) (begin : ℕ) (ns : List Node) (o : Option Violation) (v : Verdict) → length ns ≤ 16384 → v ≡ verdict_of o → o ≡ noted (all_violations step (points_of ns)) None →
     IsLabelling step start (points_of ns) → Decided step start begin v
 decided_rest step start begin ns o v few ev eo is =
     subst (λ v. Decided step start begin v) (sym ev) (by o (subst (λ o. Least o (all_violations step xs)) (sym eo) (least_noted (all_violations step xs) None [] refl)))
   where
-    xs : List Point
+    xs : List PointState
     xs = points_of ns
 
     long : length xs ≤ 16384
@@ -145,19 +145,19 @@ decided_rest step start begin ns o v few ev eo is =
     by None h = (xs, is, long, h)
     by (Some c) h = inl (xs, is, long, h.0, h.1)
 
-pub started : (step : Point → FlowStep) (ns0 ns : List Node) (a : ℕ) (r : CallString) (l : Label) → ns0 ≡ [] → list_of r ≡ [] → ns ≡ ns0 ++ record { point = record { addr = a; call_string = r; state = l }; changed = true } ∷ [] →
-    Reached step record { pair = record { addr = a; returns = [] }; label = l } ns
+pub started : (step : PointState → FlowStep) (ns0 ns : List Node) (a : ℕ) (r : CallString) (l : AbstractState) → ns0 ≡ [] → list_of r ≡ [] → ns ≡ ns0 ++ record { point = record { addr = a; call_string = r; state = l }; changed = true } ∷ [] →
+    Reached step record { point = record { addr = a; call_string = [] }; state = l } ns
 started step ns0 ns a r l none er e =
-    subst (λ ns. Reached step record { pair = record { addr = a; returns = [] }; label = l } ns) (sym (e ∙ ap (λ ns. ns ++ record { point = record { addr = a; call_string = r; state = l }; changed = true } ∷ []) none))
-    record { turns = zero; is = ap (λ t. record { pair = record { addr = a; returns = t }; label = l } ∷ []) er; clean = ((λ f. absurd (both_ways true f refl)), tt) }
+    subst (λ ns. Reached step record { point = record { addr = a; call_string = [] }; state = l } ns) (sym (e ∙ ap (λ ns. ns ++ record { point = record { addr = a; call_string = r; state = l }; changed = true } ∷ []) none))
+    record { turns = zero; is = ap (λ t. record { point = record { addr = a; call_string = t }; state = l } ∷ []) er; clean = ((λ f. absurd (both_ways true f refl)), tt) }
 
 none_left : (front : List Changed) → length front ≡ 0 → fronts_of front ≡ []
 none_left [] e = refl
 none_left (x ∷ xs) e = absurd (omega (arith, e))
 
-pub rests_there : (step : Point → FlowStep) (start : Point) (ns cs : List Node) (front : List Changed) → Reached step start ns → fronts_of front ≡ changed_points ns → points_of cs ≡ points_of ns → length front ≡ 0 → IsLabelling step start (points_of cs)
+pub rests_there : (step : PointState → FlowStep) (start : PointState) (ns cs : List Node) (front : List Changed) → Reached step start ns → fronts_of front ≡ changed_points ns → points_of cs ≡ points_of ns → length front ≡ 0 → IsLabelling step start (points_of cs)
 rests_there step start ns cs front r f same e = reached_rests step start ns cs (fronts_of front) r f same (none_left front e)
 
-pub decided_many : (step : Point → FlowStep) (start : Point) (begin : ℕ) (ns cs : List Node) (front : List Point) → Reached step start ns → front ≡ changed_points ns → points_of cs ≡ points_of ns →
+pub decided_many : (step : PointState → FlowStep) (start : PointState) (begin : ℕ) (ns cs : List Node) (front : List PointState) → Reached step start ns → front ≡ changed_points ns → points_of cs ≡ points_of ns →
     16384 < length (join_all (given_points step front) (points_of cs)) → Decided step start begin (No begin TooMany 0)
 decided_many step start begin ns cs front r f same many = let n = reached_many step start ns cs front r f same many in inr (n.0, n.1, refl)

@@ -12,7 +12,7 @@ use Rattle.flow_rule.specs.declared.Val.{Val}
 use Rattle.flow_rule.specs.declared.Reach.{Reach}
 use Rattle.flow_rule.specs.declared.Reason.TheVariants.{SecretAtExit, DataAtExit, Illegal, UnknownTarget, SecretBranch}
 use Rattle.flow_rule.specs.declared.Val.TheVariants.{Secret}
-use Rattle.flow_rule.specs.Rounds.{RuleViolation, FlowStep, Point}
+use Rattle.flow_rule.specs.Iterations.{RuleViolation, FlowStep, PointState}
 use Rattle.flow_rule.specs.Values.{is_secret, val}
 use Rattle.arm_balance.specs.Met.{text_byte}
 use Rattle.flow_rule.specs.Does.{word_no, past_val, does_val, writes_val}
@@ -64,44 +64,44 @@ same_written m ws xs ys [] h = none_written m ws xs ∙ sym (none_written m ws y
 same_written m ws xs ys (v ∷ vs) h = absurd cc
 
 -- ---- a jump, and a unit instruction
-pub addrs_append : (xs ys : List Point) → addrs_of (xs ++ ys) ≡ addrs_of xs ++ addrs_of ys
+pub addrs_append : (xs ys : List PointState) → addrs_of (xs ++ ys) ≡ addrs_of xs ++ addrs_of ys
 addrs_append [] ys = refl
-addrs_append (x ∷ xs) ys = ap (λ l. x.pair.addr ∷ l) (addrs_append xs ys)
+addrs_append (x ∷ xs) ys = ap (λ l. x.point.addr ∷ l) (addrs_append xs ys)
 
 pub both_least : (rs xs bs : List RuleViolation) (o0 o1 o2 o3 : Option Violation) → o1 ≡ noted rs o0 → o2 ≡ noted xs o1 → o3 ≡ noted bs o2 → o3 ≡ noted (rs ++ (xs ++ bs)) o0
 both_least rs xs bs o0 o1 o2 o3 e1 e2 e3 =
     e3 ∙ ap (noted bs) (e2 ∙ ap (noted xs) e1) ∙ sym (noted_append rs (xs ++ bs) o0 ∙ noted_append xs bs (noted rs o0))
 
-pub both_addrs : (xs ys : List Point) (t0 t1 t2 : List ℕ) → t1 ≡ t0 ++ addrs_of xs → t2 ≡ t1 ++ addrs_of ys → t2 ≡ t0 ++ addrs_of (xs ++ ys)
+pub both_addrs : (xs ys : List PointState) (t0 t1 t2 : List ℕ) → t1 ≡ t0 ++ addrs_of xs → t2 ≡ t1 ++ addrs_of ys → t2 ≡ t0 ++ addrs_of (xs ++ ys)
 both_addrs xs ys t0 t1 t2 e1 e2 =
     e2 ∙ ap (λ l. l ++ addrs_of ys) e1 ∙ append_assoc t0 (addrs_of xs) (addrs_of ys) ∙ ap (λ l. t0 ++ l) (sym (addrs_append xs ys))
 
-abbrev taken_to : Terms → Module → Insn → Point → FlowStep
-taken_to terms m insn x = goes terms m x.pair.addr x.pair.returns (does_val insn x.pair.addr x.label.core []).core x.label.words
+abbrev taken_to : Terms → Module → Insn → PointState → FlowStep
+taken_to terms m insn x = goes terms m x.point.addr x.point.call_string (does_val insn x.point.addr x.state.core []).core x.state.words
 
-abbrev either_way : Terms → Module → Insn → Point → FlowStep
+abbrev either_way : Terms → Module → Insn → PointState → FlowStep
 either_way terms m insn x =
-    also (violation_if (is_secret (val x.label.core 2)) x.pair.addr SecretBranch 0)
-    (both (taken_to terms m insn x) (goes terms m x.pair.addr x.pair.returns (past_val insn x.pair.addr x.label.core) x.label.words))
+    also (violation_if (is_secret (val x.state.core 2)) x.point.addr SecretBranch 0)
+    (both (taken_to terms m insn x) (goes terms m x.point.addr x.point.call_string (past_val insn x.point.addr x.state.core) x.state.words))
 
-pub jump_always : (terms : Terms) (m : Module) (text : List ℕ) (insn : Insn) (cn : Condition) (x : Point) → is_always cn ≡ true →
+pub jump_always : (terms : Terms) (m : Module) (text : List ℕ) (insn : Insn) (cn : Condition) (x : PointState) → is_always cn ≡ true →
     step_jump terms m text insn cn x ≡ taken_to terms m insn x
 jump_always terms m text insn cn x e = ap (λ b. cond b (taken_to terms m insn x) (either_way terms m insn x)) e
 
-pub jump_other : (terms : Terms) (m : Module) (text : List ℕ) (insn : Insn) (cn : Condition) (x : Point) → is_always cn ≡ false →
+pub jump_other : (terms : Terms) (m : Module) (text : List ℕ) (insn : Insn) (cn : Condition) (x : PointState) → is_always cn ≡ false →
     step_jump terms m text insn cn x ≡ either_way terms m insn x
 jump_other terms m text insn cn x e = ap (λ b. cond b (taken_to terms m insn x) (either_way terms m insn x)) e
 
-pub jump_same : (terms : Terms) (m : Module) (text : List ℕ) (insn : Insn) (cn : Condition) (off : ℤ) (x : Point) → insn ≡ Jump cn off → step_jump terms m text insn cn x ≡ step_insn terms m text (Some insn) x
+pub jump_same : (terms : Terms) (m : Module) (text : List ℕ) (insn : Insn) (cn : Condition) (off : ℤ) (x : PointState) → insn ≡ Jump cn off → step_jump terms m text insn cn x ≡ step_insn terms m text (Some insn) x
 jump_same terms m text insn cn off x e = ap (λ i. step_jump terms m text i cn x) e ∙ sym (ap (λ i. step_insn terms m text (Some i) x) e)
 
-pub reti_same : (terms : Terms) (m : Module) (text : List ℕ) (insn : Insn) (x : Point) → insn ≡ Reti → fails x.pair.addr Illegal (word_at (text_byte m.text text) x.pair.addr) ≡ step_insn terms m text (Some insn) x
+pub reti_same : (terms : Terms) (m : Module) (text : List ℕ) (insn : Insn) (x : PointState) → insn ≡ Reti → fails x.point.addr Illegal (word_at (text_byte m.text text) x.point.addr) ≡ step_insn terms m text (Some insn) x
 reti_same terms m text insn x e = sym (ap (λ i. step_insn terms m text (Some i) x) e)
 
 -- ---- steps into the closed words of a stub
-shut_same : (m : Module) (pc : ℕ) (gs : List Point) → shut_violations m pc gs ≡ shut_at m pc (addrs_of gs)
+shut_same : (m : Module) (pc : ℕ) (gs : List PointState) → shut_violations m pc gs ≡ shut_at m pc (addrs_of gs)
 shut_same m pc [] = refl
-shut_same m pc (x ∷ gs) = ap (λ rs. violation_if (is_shut (word_number m x.pair.addr)) pc UnknownTarget 0 ++ rs) (shut_same m pc gs)
+shut_same m pc (x ∷ gs) = ap (λ rs. violation_if (is_shut (word_number m x.point.addr)) pc UnknownTarget 0 ++ rs) (shut_same m pc gs)
 
 pub shut_more : (m : Module) (pc a : ℕ) (more : List ℕ) (o p : Option Violation) → p ≡ noted (violation_if (is_shut (word_number m a)) pc UnknownTarget 0) o → noted (shut_at m pc (a ∷ more)) o ≡ noted (shut_at m pc more) p
 shut_more m pc a more o p e = noted_append (violation_if (is_shut (word_number m a)) pc UnknownTarget 0) (shut_at m pc more) o ∙ ap (noted (shut_at m pc more)) (sym e)
@@ -111,17 +111,17 @@ pub shut_after : (m : Module) (pc : ℕ) (s : FlowStep) (ts : List ℕ) (o0 o1 o
 shut_after m pc s ts o0 o1 o2 e1 et e2 =
     e2 ∙ ap (λ t. noted (shut_at m pc t) o1) et ∙ ap (λ rs. noted rs o1) (sym (shut_same m pc s.gives)) ∙ ap (noted (shut_violations m pc s.gives)) e1 ∙ sym (noted_append s.violations (shut_violations m pc s.gives) o0)
 
-pub stub_open : (terms : Terms) (m : Module) (text : List ℕ) (x : Point) → (word_number m x.pair.addr == 17) ≡ false → is_open (word_number m x.pair.addr) ≡ true → step_of terms m text x ≡ step_stub terms m text x
+pub stub_open : (terms : Terms) (m : Module) (text : List ℕ) (x : PointState) → (word_number m x.point.addr == 17) ≡ false → is_open (word_number m x.point.addr) ≡ true → step_of terms m text x ≡ step_stub terms m text x
 unfolding step_stub
 stub_open terms m text x e f =
-    sym (ap (λ b. cond b (step_entries m text x) (shut_if (is_open (word_number m x.pair.addr)) m x.pair.addr (step_of terms m text x))) e
-    ∙ ap (λ b. shut_if b m x.pair.addr (step_of terms m text x)) f)
+    sym (ap (λ b. cond b (step_entries m text x) (shut_if (is_open (word_number m x.point.addr)) m x.point.addr (step_of terms m text x))) e
+    ∙ ap (λ b. shut_if b m x.point.addr (step_of terms m text x)) f)
 
-pub stub_shut : (terms : Terms) (m : Module) (text : List ℕ) (x : Point) → (word_number m x.pair.addr == 17) ≡ false → is_open (word_number m x.pair.addr) ≡ false → shut_if false m x.pair.addr (step_of terms m text x) ≡ step_stub terms m text x
+pub stub_shut : (terms : Terms) (m : Module) (text : List ℕ) (x : PointState) → (word_number m x.point.addr == 17) ≡ false → is_open (word_number m x.point.addr) ≡ false → shut_if false m x.point.addr (step_of terms m text x) ≡ step_stub terms m text x
 unfolding step_stub
 stub_shut terms m text x e f =
-    sym (ap (λ b. cond b (step_entries m text x) (shut_if (is_open (word_number m x.pair.addr)) m x.pair.addr (step_of terms m text x))) e
-    ∙ ap (λ b. shut_if b m x.pair.addr (step_of terms m text x)) f)
+    sym (ap (λ b. cond b (step_entries m text x) (shut_if (is_open (word_number m x.point.addr)) m x.point.addr (step_of terms m text x))) e
+    ∙ ap (λ b. shut_if b m x.point.addr (step_of terms m text x)) f)
 
 pub entries_least : (m : Module) (pc : ℕ) (push : Reach) (ts : List RuleViolation) (o0 o1 o2 : Option Violation) → noted (reach_violations m pc (push ∷ [])) o0 ≡ o1 → o2 ≡ noted ts o1 → o2 ≡ noted (reach_violations m pc (push ∷ []) ++ ts) o0
 entries_least m pc push ts o0 o1 o2 e1 e2 = e2 ∙ ap (noted ts) (sym e1) ∙ sym (noted_append (reach_violations m pc (push ∷ [])) ts o0)

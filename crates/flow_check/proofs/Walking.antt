@@ -11,9 +11,9 @@ use Rattle.mod_layout.specs.declared.Module.{Module}
 use Rattle.arm_balance.specs.Met.{met}
 use Rattle.arm_balance.specs.Balance.{arm_on}
 use Rattle.arm_balance.specs.declared.Arm.{Arm}
-use Rattle.flow_rule.specs.declared.Label.{Label}
+use Rattle.flow_rule.specs.declared.AbstractState.{AbstractState}
 use Rattle.flow_rule.specs.declared.Reason.TheVariants.{ArmTime}
-use Rattle.flow_rule.specs.Rounds.{RuleViolation, Point, FlowStep}
+use Rattle.flow_rule.specs.Iterations.{RuleViolation, PointState, FlowStep}
 use Rattle.flow_rule.specs.declared.Val.{Val}
 use Rattle.flow_rule.specs.declared.Val.TheVariants.{Secret}
 use Rattle.flow_rule.specs.Values.{is_secret, set_each, val}
@@ -26,7 +26,7 @@ use Rattle.flow_check.specs.declared.arm.Tally.{Tally}
 use Rattle.flow_check.specs.internal.Violations.{noted}
 use Rattle.flow_check.specs.declared.program.Program.{Program}
 use Rattle.flow_check.specs.internal.Programs.{flow, base_flow, flow_at, arm_walk}
-use Rattle.flow_check.specs.internal.Points.{addrs_of, points_at, label_at}
+use Rattle.flow_check.specs.internal.Points.{addrs_of, points_at, state_at}
 use Rattle.flow_check.specs.internal.Arms.{untold, told_insn, tally_told, told_violations, told_state, site_from, site_by, step_at}
 use Rattle.flow_check.proofs.Clobbering.{core_append, words_append}
 use Rattle.flow_check.proofs.Violations.{noted_append}
@@ -41,12 +41,12 @@ abbrev told_as : ℕ → List Val → List Val → Result Tally ℕ
 told_as cycles core words = Ok (record { cycles = cycles; state = record { core = core; words = words } })
 
 -- where an instruction goes on, what it takes and writes may be told first
-told_walked : (insn : Insn) (m : Module) (x : Point) (rest : Walk) (t : Tally) →
+told_walked : (insn : Insn) (m : Module) (x : PointState) (rest : Walk) (t : Tally) →
     tally_told (walked (Some insn) m x rest) t
-    ≡ tally_told rest (told_insn (cycles_of insn) insn m (plan_val insn x.pair.addr x.label.core) t)
+    ≡ tally_told rest (told_insn (cycles_of insn) insn m (plan_val insn x.point.addr x.state.core) t)
 told_walked insn m x (Stops addr) t = refl
 told_walked insn m x (Meets cycles regs words) t =
-    let ws = written_words m (write_reaches (plan_val insn x.pair.addr x.label.core)) in
+    let ws = written_words m (write_reaches (plan_val insn x.point.addr x.state.core)) in
     let time = t.cycles + cycles_of insn + cycles in
     let core = clobbered_core (written_regs insn ++ regs) t.state.core in
     ap (λ c. told_as c core (set_each (ws ++ words) Secret t.state.words))
@@ -57,14 +57,14 @@ told_walked insn m x (Meets cycles regs words) t =
 
 module _ (p : Program) (join : ℕ) where
   -- where an arm goes on from a point
-  abbrev next_at : Point → Option ℕ
-  next_at x = arm_on p.module.now.text p.text.now join x.pair.addr
+  abbrev next_at : PointState → Option ℕ
+  next_at x = arm_on p.module.now.text p.text.now join x.point.addr
 
   -- the walk from there, by a step's violations and gives
-  abbrev onward : ℕ → Option ℕ → List RuleViolation → List Point → Point → Walk
+  abbrev onward : ℕ → Option ℕ → List RuleViolation → List PointState → PointState → Walk
   onward steps o rs gs x = walk_on o rs gs p.module.now p.text.now x (arm_walk p join steps)
 
-  walk_at : (steps : ℕ) (x : Point) (b : Bool) (o : Option ℕ) → (x.pair.addr == join) ≡ b → next_at x ≡ o →
+  walk_at : (steps : ℕ) (x : PointState) (b : Bool) (o : Option ℕ) → (x.point.addr == join) ≡ b → next_at x ≡ o →
       arm_walk p join (suc steps) x
       ≡ cond b (Meets 0 [] []) (onward steps o (base_flow p x).violations (base_flow p x).gives x)
   walk_at steps x b o e on =
@@ -72,25 +72,25 @@ module _ (p : Program) (join : ℕ) where
       ap (λ b. cond b (Meets 0 [] []) (onward steps (next_at x) s.violations s.gives x)) e
       ∙ ap (λ o. cond b (Meets 0 [] []) (onward steps o s.violations s.gives x)) on
 
-  calm : (steps : ℕ) (x : Point) (next : ℕ) → x.pair.addr ≢ join → next_at x ≡ Some next → (base_flow p x).violations ≡ [] →
+  calm : (steps : ℕ) (x : PointState) (next : ℕ) → x.point.addr ≢ join → next_at x ≡ Some next → (base_flow p x).violations ≡ [] →
       arm_walk p join (suc steps) x ≡ onward steps (Some next) [] (base_flow p x).gives x
   calm steps x next ne on none =
-      walk_at steps x false (Some next) (let f : (x.pair.addr == join) ≡ false = grind (arith, nat_tests) in f) on
+      walk_at steps x false (Some next) (let f : (x.point.addr == join) ≡ false = grind (arith, nat_tests) in f) on
       ∙ ap (λ rs. onward steps (Some next) rs (base_flow p x).gives x) none
 
   -- an instruction that leaves the text
-  pub walk_leaves : (steps : ℕ) (x : Point) (t : Tally) (next : ℕ) → x.pair.addr ≢ join → next_at x ≡ Some next →
+  pub walk_leaves : (steps : ℕ) (x : PointState) (t : Tally) (next : ℕ) → x.point.addr ≢ join → next_at x ≡ Some next →
       (base_flow p x).violations ≡ [] → (base_flow p x).gives ≡ [] → tally_told (arm_walk p join (suc steps) x) t ≡ Err next
   walk_leaves steps x t next ne on none out =
       ap (λ w. tally_told w t) (calm steps x next ne on none ∙ ap (λ gs. onward steps (Some next) [] gs x) out)
 
   -- an instruction that goes on
-  pub walk_goes : (steps : ℕ) (x y : Point) (ys : List Point) (t : Tally) (next : ℕ) (insn : Insn) → x.pair.addr ≢ join →
-      next_at x ≡ Some next → met p.module.now.text p.text.now x.pair.addr ≡ Some insn →
+  pub walk_goes : (steps : ℕ) (x y : PointState) (ys : List PointState) (t : Tally) (next : ℕ) (insn : Insn) → x.point.addr ≢ join →
+      next_at x ≡ Some next → met p.module.now.text p.text.now x.point.addr ≡ Some insn →
       (base_flow p x).violations ≡ [] → (base_flow p x).gives ≡ y ∷ ys →
       tally_told (arm_walk p join (suc steps) x) t
       ≡ tally_told (arm_walk p join steps y)
-      (told_insn (cycles_of insn) insn p.module.now (plan_val insn x.pair.addr x.label.core) t)
+      (told_insn (cycles_of insn) insn p.module.now (plan_val insn x.point.addr x.state.core) t)
   walk_goes steps x y ys t next insn ne on it none go =
       ap (λ w. tally_told w t)
       (calm steps x next ne on none ∙ ap (λ gs. onward steps (Some next) [] gs x) go
@@ -98,37 +98,37 @@ module _ (p : Program) (join : ℕ) where
       ∙ told_walked insn p.module.now x (arm_walk p join steps y) t
 
   -- at the join with steps left
-  pub walk_there : (left : ℕ) (x : Point) (t : Tally) → 0 < left → x.pair.addr ≡ join →
+  pub walk_there : (left : ℕ) (x : PointState) (t : Tally) → 0 < left → x.point.addr ≡ join →
       tally_told (arm_walk p join left x) t ≡ Ok t
   walk_there zero x t h e = absurd (omega arith)
   walk_there (suc steps) x t h e =
-      let f : (x.pair.addr == join) ≡ true = grind (arith, nat_tests) in
+      let f : (x.point.addr == join) ≡ true = grind (arith, nat_tests) in
       ap (λ w. tally_told w t) (walk_at steps x true (next_at x) f refl) ∙ told_joined t
 
 -- what is given, by the first address
-pub successors_first : (gs : List Point) (ts rs : List ℕ) (l : Label) (to : ℕ) → ts ≡ addrs_of gs → gs ≡ points_at (addrs_of gs) rs l → slice_get ts 0 ≡ Some to →
-    (ys : List Point) × (gs ≡ record { pair = record { addr = to; returns = rs }; label = label_at to l } ∷ ys)
+pub successors_first : (gs : List PointState) (ts rs : List ℕ) (l : AbstractState) (to : ℕ) → ts ≡ addrs_of gs → gs ≡ points_at (addrs_of gs) rs l → slice_get ts 0 ≡ Some to →
+    (ys : List PointState) × (gs ≡ record { point = record { addr = to; call_string = rs }; state = state_at to l } ∷ ys)
 successors_first gs [] rs l to et eg e = absurd cc
 successors_first gs (t ∷ ts) rs l to et eg e =
     let f : t ≡ to = cc in
-    (points_at ts rs l, eg ∙ ap (λ ts. points_at ts rs l) (sym et) ∙ ap (λ a. record { pair = record { addr = a; returns = rs }; label = label_at a l } ∷ points_at ts rs l) f)
+    (points_at ts rs l, eg ∙ ap (λ ts. points_at ts rs l) (sym et) ∙ ap (λ a. record { point = record { addr = a; call_string = rs }; state = state_at a l } ∷ points_at ts rs l) f)
 
-pub successors_none : (gs : List Point) (ts rs : List ℕ) (l : Label) → ts ≡ addrs_of gs → gs ≡ points_at (addrs_of gs) rs l → slice_get ts 0 ≡ None → gs ≡ []
+pub successors_none : (gs : List PointState) (ts rs : List ℕ) (l : AbstractState) → ts ≡ addrs_of gs → gs ≡ points_at (addrs_of gs) rs l → slice_get ts 0 ≡ None → gs ≡ []
 successors_none gs [] rs l et eg e = eg ∙ ap (λ ts. points_at ts rs l) (sym et)
 successors_none gs (t ∷ ts) rs l et eg e = absurd cc
 
 -- ---- the step of a branch
 
 -- a step by its certificate
-pub site_is : (S : Point → FlowStep) (arms : List Arm) (m : Module) (text : List ℕ) (x : Point) → step_arms S arms m text x ≡ step_at (site_by (met m.text text x.pair.addr) arms x.pair.addr (val x.label.core 2)) S m text x
+pub site_is : (S : PointState → FlowStep) (arms : List Arm) (m : Module) (text : List ℕ) (x : PointState) → step_arms S arms m text x ≡ step_at (site_by (met m.text text x.point.addr) arms x.point.addr (val x.state.core 2)) S m text x
 unfolding step_arms
-site_is S arms m text x = by (met m.text text x.pair.addr)
+site_is S arms m text x = by (met m.text text x.point.addr)
   where
-    by : (o : Option Insn) → step_arms_by o S arms m text x ≡ step_at (site_by o arms x.pair.addr (val x.label.core 2)) S m text x
-    by (Some (Jump c off)) = jump (not (is_always c) && is_secret (val x.label.core 2)) (find (λ arm. arm.branch == x.pair.addr) arms)
+    by : (o : Option Insn) → step_arms_by o S arms m text x ≡ step_at (site_by o arms x.point.addr (val x.state.core 2)) S m text x
+    by (Some (Jump c off)) = jump (not (is_always c) && is_secret (val x.state.core 2)) (find (λ arm. arm.branch == x.point.addr) arms)
       where
         target : ℕ
-        target = add16 (add16 x.pair.addr 2) (distance off)
+        target = add16 (add16 x.point.addr 2) (distance off)
 
         jump : (b : Bool) (a : Option Arm) → cond b (step_branch a S m text (Jump c off) x target) (S x) ≡ step_at (cond b (site_from a (Jump c off) target) None) S m text x
         jump true None = refl
@@ -137,19 +137,19 @@ site_is S arms m text x = by (met m.text text x.pair.addr)
     by _ = refl
 
 -- the violations of an arm, by its walk
-arm_told : (branch time number : ℕ) (w : Walk) (l : Label) →
+arm_told : (branch time number : ℕ) (w : Walk) (l : AbstractState) →
     told_violations branch time number (tally_told w (untold l)) ≡ arm_violations branch time number w
 arm_told branch time number (Meets cycles regs words) l =
     ap (λ n. violation_if (not (n == time)) branch ArmTime number) (let e : 0 + cycles ≡ cycles = omega arith in e)
 arm_told branch time number (Stops addr) l = refl
 
 -- the state behind it
-state_told : (w : Walk) (l : Label) → told_state l (tally_told w (untold l)) ≡ clobbered_by w l
+state_told : (w : Walk) (l : AbstractState) → told_state l (tally_told w (untold l)) ≡ clobbered_by w l
 state_told (Meets cycles regs words) l = refl
 state_told (Stops addr) l = refl
 
 -- both arms, one after the other
-module _ (l0 l1 : Label) (w0 w1 : Walk) (r0 r1 : Result Tally ℕ) (first : r0 ≡ tally_told w0 (untold l0))
+module _ (l0 l1 : AbstractState) (w0 w1 : Walk) (r0 r1 : Result Tally ℕ) (first : r0 ≡ tally_told w0 (untold l0))
     (between : l1 ≡ told_state l0 r0) (second : r1 ≡ tally_told w1 (untold l1))
   where
     -- the least of the violations at a branch with a certificate
@@ -173,11 +173,11 @@ module _ (l0 l1 : Label) (w0 w1 : Walk) (r0 r1 : Result Tally ℕ) (first : r0 �
         ∙ ap (clobbered_by w1) (between ∙ ap (told_state l0) first ∙ state_told w0 l0)
 
 -- a step by what stands at the branch
-abbrev site_there : Program → Point → Option BranchSite
-site_there p x = site_by (met p.module.now.text p.text.now x.pair.addr) p.arms.now x.pair.addr (val x.label.core 2)
+abbrev site_there : Program → PointState → Option BranchSite
+site_there p x = site_by (met p.module.now.text p.text.now x.point.addr) p.arms.now x.point.addr (val x.state.core 2)
 
-pub by_site : (p : Program) (x : Point) (o : Option BranchSite) (c : BranchSite) → o ≡ site_there p x → o ≡ Some c → flow p x ≡ flow_at p c x
+pub by_site : (p : Program) (x : PointState) (o : Option BranchSite) (c : BranchSite) → o ≡ site_there p x → o ≡ Some c → flow p x ≡ flow_at p c x
 by_site p x o c e f = site_is (base_flow p) p.arms.now p.module.now p.text.now x ∙ ap (λ o. step_at o (base_flow p) p.module.now p.text.now x) (sym e ∙ f)
 
-pub by_none : (p : Program) (x : Point) (o : Option BranchSite) → o ≡ site_there p x → o ≡ None → flow p x ≡ base_flow p x
+pub by_none : (p : Program) (x : PointState) (o : Option BranchSite) → o ≡ site_there p x → o ≡ None → flow p x ≡ base_flow p x
 by_none p x o e f = site_is (base_flow p) p.arms.now p.module.now p.text.now x ∙ ap (λ o. step_at o (base_flow p) p.module.now p.text.now x) (sym e ∙ f)

@@ -14,7 +14,7 @@ use crate::step::Targets;
 use crate::stub::step_point;
 use arm_balance::met_arm;
 use cycle_table::cycles;
-use flow_rule::{Label, Reach, Val};
+use flow_rule::{AbstractState, Reach, Val};
 use insn_decode::Insn;
 use mod_layout::Module;
 
@@ -22,7 +22,7 @@ use mod_layout::Module;
 #[derive(Clone, Copy)]
 pub struct Tally {
     pub cycles: u32,
-    pub state: Label,
+    pub state: AbstractState,
 }
 
 /// Tells what an instruction takes and writes.
@@ -89,7 +89,7 @@ pub fn walk(
     program: &Program<'_>,
     join: u16,
     from: &Point,
-    state: &Label,
+    state: &AbstractState,
     relevance: &mut Relevance,
 ) -> Result<Tally, u16>
     ensures { result ≡ tally_told (arm_walk program.now join (suc join) (point_at from.now)) (untold state.now) }

@@ -21,7 +21,7 @@ use crate::relevant::Relevance;
 use crate::transfer::does;
 use crate::violation::{Violation, note, note_if};
 use arm_balance::{Arm, met, target};
-use flow_rule::{Label, Reason, Val};
+use flow_rule::{AbstractState, Reason, Val};
 use insn_decode::Insn;
 
 /// A branch with its certificate.
@@ -137,7 +137,7 @@ fn take_arm(
     time: u16,
     number: u16,
     least: &mut Option<Violation>,
-    told: &mut Label,
+    told: &mut AbstractState,
 )
     ensures least { least.new ≡ noted (told_violations branch time number walked.now) least.old }
     ensures told { told.new ≡ told_state told.old walked.now }
@@ -164,7 +164,7 @@ pub fn walk_arms(
     site: &BranchSite,
     from: &Point,
     least: &mut Option<Violation>,
-    told: &mut Label,
+    told: &mut AbstractState,
     relevance: &mut Relevance,
 )
     ensures least { least.new ≡ noted (flow_at program.now site.now (point_at from.now)).violations least.old }
@@ -183,7 +183,7 @@ pub fn walk_arms(
 }
 
 /// The site of a program point that is a secret branch with a certificate.
-pub fn site_of(program: &Program<'_>, pc: u16, state: &Label) -> Option<BranchSite>
+pub fn site_of(program: &Program<'_>, pc: u16, state: &AbstractState) -> Option<BranchSite>
     ensures { result ≡ site_by (met program.now.module.now.text program.now.text.now pc) program.now.arms.now pc
         (val state.now.core 2) }
 {

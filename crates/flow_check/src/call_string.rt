@@ -3,7 +3,7 @@
 ghost use Rattle.std.specs.Prelude.{◌≡◌, ◌≤◌, ◌<◌, ◌++◌, ◌∷◌, [], length, true, nat_eq, nat_lt, not};
 ghost use Rattle.std.specs.Cmp.Lexicographic.{pointwise};
 ghost use Rattle.sm_words.specs.Words.{nth};
-ghost use Rattle.flow_rule.specs.Returns.{last_is, without_newest};
+ghost use Rattle.flow_rule.specs.CallStrings.{last_is, pop_call};
 ghost use Rattle.flow_check.specs.internal.Carries.{is_number};
 ghost use Rattle.flow_check.specs.internal.Points.{list_of};
 
@@ -67,7 +67,7 @@ impl CallString {
     #[tactic(auto, using(crate::proofs::CallStrings::but_of, crate::proofs::CallStrings::last_of, crate::proofs::CallStrings::last_none, crate::proofs::CallStrings::but_none))]
     pub fn pop_is(&mut self, values: &[Val]) -> bool
         ensures is { result ≡ last_is (nth 0 values.now Val.Secret) (list_of self.old) }
-        ensures list { list_of self.new ≡ without_newest (list_of self.old) }
+        ensures list { list_of self.new ≡ pop_call (list_of self.old) }
     {
         let count = self.len();
         if count == 0 {
@@ -86,7 +86,7 @@ impl CallString {
         &self.addrs[..self.len()]
     }
 
-    /// Whether two lists are the same.
+    /// Whether two call strings are the same.
     pub fn same(&self, other: &CallString) -> bool
         ensures { result ≡ pointwise nat_eq (list_of self.now) (list_of other.now) }
     {

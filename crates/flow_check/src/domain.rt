@@ -7,13 +7,13 @@ ghost use Rattle.flow_rule.specs.Values.{is_secret, join, over_one, blurred, nar
 ghost use Rattle.flow_rule.specs.Values.{kept_val, put_val, join_each};
 ghost use Rattle.flow_rule.specs.Does.{half};
 ghost use Rattle.flow_check.specs.internal.Carries.{IsCarry};
-ghost use Rattle.flow_rule.specs.declared.Label.{Label};
-ghost use Rattle.flow_rule.specs.Rounds.{join_label, join_all};
-ghost use Rattle.flow_check.specs.internal.Weights.{weight_all, weight_label};
-ghost use Rattle.flow_check.specs.internal.Summaries.{blank_label, laid, overlay};
+ghost use Rattle.flow_rule.specs.declared.AbstractState.{AbstractState};
+ghost use Rattle.flow_rule.specs.Iterations.{join_states, join_all};
+ghost use Rattle.flow_check.specs.internal.Weights.{weight_all, weight_state};
+ghost use Rattle.flow_check.specs.internal.Summaries.{blank_state, laid, overlay};
 ghost use Rattle.flow_rule.specs.Absorbs.{Absorbs};
 
-use flow_rule::{Label, Val};
+use flow_rule::{AbstractState, Val};
 use sm_words::Width;
 
 /// Whether it is Secret.
@@ -194,10 +194,10 @@ fn join_all(into: &mut [Val], from: &[Val]) -> bool
 }
 
 /// Joins a state to another, and tells whether it changed.
-pub fn join_label(into: &mut Label, from: &Label) -> bool
-    ensures joined { into.new ≡ join_label into.old from.now }
+pub fn join_states(into: &mut AbstractState, from: &AbstractState) -> bool
+    ensures joined { into.new ≡ join_states into.old from.now }
     ensures same { result ≡ false → into.new ≡ into.old }
-    ensures rises { result ≡ true → weight_label into.old < weight_label (join_label into.old from.now) }
+    ensures rises { result ≡ true → weight_state into.old < weight_state (join_states into.old from.now) }
 {
     let core = join_all(&mut into.core, &from.core);
     let words = join_all(&mut into.words, &from.words);
@@ -205,11 +205,11 @@ pub fn join_label(into: &mut Label, from: &Label) -> bool
 }
 
 /// Whether joining a state to another changes nothing.
-pub fn subsumes(top: &Label, state: &Label) -> bool
+pub fn subsumes(top: &AbstractState, state: &AbstractState) -> bool
     ensures { result ≡ true → Absorbs top.now state.now }
 {
     let mut joined = *top;
-    !join_label(&mut joined, state)
+    !join_states(&mut joined, state)
 }
 
 /// A value, or what is seen through it where it is Public.
@@ -243,7 +243,7 @@ fn overlay(into: &mut [Val], told: &[Val])
 }
 
 /// Writes what the arms of a branch wrote.
-pub fn overlay_label(state: &mut Label, told: &Label)
+pub fn overlay_state(state: &mut AbstractState, told: &AbstractState)
     ensures laid { state.new ≡ record {
       core = overlay told.now.core state.old.core;
       words = overlay told.now.words state.old.words;
@@ -256,10 +256,10 @@ pub fn overlay_label(state: &mut Label, told: &Label)
 }
 
 /// A state in which nothing is written.
-pub fn blank_label() -> Label
-    ensures { result ≡ blank_label }
+pub fn blank_state() -> AbstractState
+    ensures { result ≡ blank_state }
 {
-    Label {
+    AbstractState {
         core: [Val::Public; 16],
         words: [Val::Public; 256],
     }

@@ -12,7 +12,7 @@ use crate::domain::{Core, Words, get, is_secret};
 use crate::memory::{known, word_number};
 use crate::program::Program;
 use crate::violation::{Violation, note, note_if};
-use flow_rule::{Label, Reason, Val};
+use flow_rule::{AbstractState, Reason, Val};
 use mod_layout::Module;
 
 /// What is wrong with these registers: the lowest that is Secret.
@@ -89,7 +89,7 @@ pub fn close(program: &Program<'_>, pc: u16, core: &Core, least: &mut Option<Vio
 
 /// Leaves the module with this state.
 #[tactic(auto, using(crate::proofs::Violations::noted_append))]
-pub fn leave(program: &Program<'_>, pc: u16, state: &Label, least: &mut Option<Violation>)
+pub fn leave(program: &Program<'_>, pc: u16, state: &AbstractState, least: &mut Option<Violation>)
     ensures { least.new ≡ noted
         (exit_step (terms_in program.now) program.now.module.now pc state.now.core state.now.words).violations
         least.old }

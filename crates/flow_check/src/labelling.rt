@@ -2,18 +2,18 @@
 
 ghost use Rattle.std.specs.Prelude.{◌≡◌, ◌≤◌, ◌<◌, ◌+◌, ◌*◌, ◌++◌, ◌∷◌, [], length, drop, true, false, ℕ};
 ghost use Rattle.std.specs.Prelude.{List, Bool, IfSome, IfOk, OnOk, Some, None, slice_get, slice_set};
-ghost use Rattle.flow_rule.specs.declared.Label.{Label};
-ghost use Rattle.flow_rule.specs.Rounds.{join_in, join_all, Pair, Point as RulePoint, FlowStep};
-ghost use Rattle.flow_check.specs.internal.Points.{fronts_of, pair_of, list_of, label_at, points_at};
+ghost use Rattle.flow_rule.specs.declared.AbstractState.{AbstractState};
+ghost use Rattle.flow_rule.specs.Iterations.{join_in, join_all, ProgramPoint, PointState, FlowStep};
+ghost use Rattle.flow_check.specs.internal.Points.{fronts_of, program_point, list_of, state_at, points_at};
 ghost use Rattle.flow_check.specs.internal.Points.{point_at, points_of};
 ghost use Rattle.flow_check.specs.internal.Labellings.{mark_at, changed_points, same_at, Listed, Fewer, KeptPoints, NoMark};
 ghost use Rattle.flow_check.specs.internal.Labellings.{Absent, Placed, place_of, Reached, StillKept, joined_point};
 ghost use Rattle.std.specs.List.Sorted.{IsNonDecreasing};
 
 use crate::call_string::CallString;
-use crate::domain::join_label;
-use crate::point::{Key, Point};
-use flow_rule::{Label, Val};
+use crate::domain::join_states;
+use crate::point::{Key, PointState};
+use flow_rule::{AbstractState, Val};
 use std::alloc::{AllocError, Global};
 use std::collections::BTreeMap;
 use std::marker::Model;
@@ -21,7 +21,7 @@ use std::marker::Model;
 /// A program point with its state, and whether that changed in the last iteration.
 #[derive(Clone, Copy)]
 pub struct Node {
-    pub point: Point,
+    pub point: PointState,
     pub changed: bool,
 }
 
@@ -29,7 +29,7 @@ pub struct Node {
 #[derive(Clone, Copy)]
 pub struct Changed {
     pub place: usize,
-    pub point: Point,
+    pub point: PointState,
 }
 
 /// The program points with their states.
@@ -58,8 +58,8 @@ impl Model for Labelling {
 }
 
 /// Whether one of these is this program point.
-fn same_at(nodes: &[Node], point: &Point, i: usize) -> bool
-    ensures { result ≡ same_at (pair_of point.now) nodes.now i }
+fn same_at(nodes: &[Node], point: &PointState, i: usize) -> bool
+    ensures { result ≡ same_at (program_point point.now) nodes.now i }
 {
     match nodes.get(i) {
         Some(found) => found.point.is_same(point),
@@ -68,8 +68,8 @@ fn same_at(nodes: &[Node], point: &Point, i: usize) -> bool
 }
 
 /// The place that a map has of a program point.
-fn place(places: &BTreeMap<Key, usize>, point: &Point) -> Option<usize>
-    ensures { result ≡ place_of places.now (pair_of point.now) }
+fn place(places: &BTreeMap<Key, usize>, point: &PointState) -> Option<usize>
+    ensures { result ≡ place_of places.now (program_point point.now) }
 {
     places.get(&point.key()).copied()
 }
@@ -77,11 +77,11 @@ fn place(places: &BTreeMap<Key, usize>, point: &Point) -> Option<usize>
 /// Notes the place of a program point that has none.
 fn note_place(
     places: &mut BTreeMap<Key, usize>,
-    point: &Point,
+    point: &PointState,
     at: usize,
 ) -> Result<(), AllocError>
-    ensures placed { (ns : List Node) → Absent (pair_of point.now) ns → Placed ns places.old → Placed ns places.new }
-    ensures noted { OnOk result (place_of places.new (pair_of point.now) ≡ Some at) }
+    ensures placed { (ns : List Node) → Absent (program_point point.now) ns → Placed ns places.old → Placed ns places.new }
+    ensures noted { OnOk result (place_of places.new (program_point point.now) ≡ Some at) }
 {
     places.insert(point.key(), at)?;
     Ok(())
@@ -93,17 +93,17 @@ fn raise(
     nodes: &mut Vec<Node>,
     worklist: &mut Vec<usize>,
     at: usize,
-    state: &Label,
+    state: &AbstractState,
 ) -> Result<(), AllocError>
     requires { at < length nodes.old.items }
     ensures points { (n : Node) → slice_get nodes.old.items at ≡ Some n → points_of nodes.new.items
         ≡ slice_set (points_of nodes.old.items) at (joined_point (point_at n.point) state.now) }
-    ensures pairs { (p : Pair) (i : ℕ) → same_at p nodes.new.items i ≡ same_at p nodes.old.items i }
+    ensures pairs { (p : ProgramPoint) (i : ℕ) → same_at p nodes.new.items i ≡ same_at p nodes.old.items i }
     ensures listed { Listed nodes.old.items worklist.old.items → Listed nodes.new.items worklist.new.items }
     ensures kept { IfOk result (λ _. StillKept nodes.old.items nodes.new.items) }
 {
     let node = &mut nodes[at];
-    if join_label(&mut node.point.state, state) {
+    if join_states(&mut node.point.state, state) {
         if !node.changed {
             worklist.push(at)?;
         }
@@ -168,10 +168,10 @@ fn take_marks(
 impl Labelling {
     /// The first program point with its state, which changed.
     #[tactic(auto, using(crate::proofs::Verdicts::started, crate::proofs::Placing::placed_none))]
-    pub fn begin(alloc: Global, start: u16, first: &Label) -> Result<Labelling, AllocError>
+    pub fn begin(alloc: Global, start: u16, first: &AbstractState) -> Result<Labelling, AllocError>
         ensures few { IfOk result (λ all. length all ≤ 16384) }
-        ensures reached { IfOk result (λ all. (step : RulePoint → FlowStep) →
-            Reached step record { pair = record { addr = start; returns = [] }; label = first.now } all) }
+        ensures reached { IfOk result (λ all. (step : PointState → FlowStep) →
+            Reached step record { point = record { addr = start; call_string = [] }; state = first.now } all) }
     {
         let mut all = Labelling {
             nodes: Vec::new(alloc),
@@ -179,7 +179,7 @@ impl Labelling {
             places: BTreeMap::new(alloc),
             worklist: Vec::new(alloc),
         };
-        let point = Point {
+        let point = PointState {
             addr: start,
             call_string: CallString::new(),
             state: *first,
@@ -197,7 +197,7 @@ impl Labelling {
 
     /// The point there.
     #[tactic(auto, using(crate::proofs::Taking::points_drop))]
-    pub fn point(&self, i: usize) -> Point
+    pub fn point(&self, i: usize) -> PointState
         requires { i < length self.now }
         ensures { points_of (drop i self.now) ≡ point_at result ∷ points_of (drop (i + 1) self.now) }
     {
@@ -221,8 +221,8 @@ impl Labelling {
 
     /// Joins a point's state to that of its place.
     #[tactic(auto, using(crate::proofs::Placing::placed_same))]
-    fn rise(&mut self, at: usize, point: &Point) -> Result<(), AllocError>
-        requires { same_at (pair_of point.now) self.old at ≡ true }
+    fn rise(&mut self, at: usize, point: &PointState) -> Result<(), AllocError>
+        requires { same_at (program_point point.now) self.old at ≡ true }
         ensures joined { points_of self.new ≡ join_in (point_at point.now) (points_of self.old) }
         ensures kept { IfOk result (λ _. StillKept self.old self.new) }
     {
@@ -231,8 +231,8 @@ impl Labelling {
 
     /// One program point more.
     #[tactic(auto, using(crate::proofs::Taking::kept_new, crate::proofs::Labellings::joins_new, crate::proofs::Marked::listed_push, crate::proofs::Marked::listed_more, crate::proofs::Placing::placed_push))]
-    fn add(&mut self, point: &Point) -> Result<(), AllocError>
-        requires { (k : ℕ) → k < length self.old → same_at (pair_of point.now) self.old k ≡ false }
+    fn add(&mut self, point: &PointState) -> Result<(), AllocError>
+        requires { (k : ℕ) → k < length self.old → same_at (program_point point.now) self.old k ≡ false }
         ensures added { IfOk result (λ _. self.new ≡ self.old ++ record { point = point.now; changed = true } ∷ []) }
         ensures joined { IfOk result (λ _. points_of self.new ≡ join_in (point_at point.now) (points_of self.old)) }
         ensures kept { IfOk result (λ _. StillKept self.old self.new) }
@@ -250,9 +250,9 @@ impl Labelling {
 
     /// The place of a program point, if it is there: where memory ran out, the map has one more.
     #[tactic(auto, using(crate::proofs::Placing::absent_none, crate::proofs::Placing::absent_other))]
-    fn find(&self, point: &Point) -> Option<usize>
-        ensures there { IfSome result (λ i. same_at (pair_of point.now) self.now i ≡ true) }
-        ensures absent { result ≡ None → Absent (pair_of point.now) self.now }
+    fn find(&self, point: &PointState) -> Option<usize>
+        ensures there { IfSome result (λ i. same_at (program_point point.now) self.now i ≡ true) }
+        ensures absent { result ≡ None → Absent (program_point point.now) self.now }
     {
         match place(&self.places, point) {
             Some(at) if same_at(self.nodes.as_slice(), point, at) => Some(at),
@@ -261,7 +261,7 @@ impl Labelling {
     }
 
     /// Joins a point's state to that of its place.
-    fn join_in(&mut self, point: &Point) -> Result<(), AllocError>
+    fn join_in(&mut self, point: &PointState) -> Result<(), AllocError>
         ensures joined { IfOk result (λ _. points_of self.new ≡ join_in (point_at point.now) (points_of self.old)) }
         ensures kept { IfOk result (λ _. StillKept self.old self.new) }
     {
@@ -293,17 +293,17 @@ impl Labelling {
     fn take_one(
         &mut self,
         to: u16,
-        state: &mut Label,
+        state: &mut AbstractState,
         call_string: &CallString,
     ) -> Result<(), AllocError>
-        ensures state { state.new ≡ label_at to state.old }
+        ensures state { state.new ≡ state_at to state.old }
         ensures joined { IfOk result (λ _. (rest : List ℕ) →
             join_all (points_at (to ∷ rest) (list_of call_string.now) state.old) (points_of self.old)
             ≡ join_all (points_at rest (list_of call_string.now) state.new) (points_of self.new)) }
         ensures kept { IfOk result (λ _. StillKept self.old self.new) }
     {
         state.core[0] = Val::Known(to);
-        let point = Point {
+        let point = PointState {
             addr: to,
             call_string: *call_string,
             state: *state,
@@ -314,7 +314,7 @@ impl Labelling {
     /// Joins what a step gave.
     pub fn take(
         &mut self,
-        state: &mut Label,
+        state: &mut AbstractState,
         targets: &[u16],
         call_string: &CallString,
     ) -> Result<(), AllocError>

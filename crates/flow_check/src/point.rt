@@ -1,12 +1,12 @@
 //! Program points: an address with the call string with which it is met.
 
 ghost use Rattle.std.specs.Prelude.{◌≡◌};
-ghost use Rattle.flow_rule.specs.Rounds.{same_pair};
-ghost use Rattle.flow_check.specs.internal.Points.{key_of, pair_of};
+ghost use Rattle.flow_rule.specs.Iterations.{same_point};
+ghost use Rattle.flow_check.specs.internal.Points.{key_of, program_point};
 
 use crate::call_string::CallString;
 use arrayvec::ArrayVec;
-use flow_rule::Label;
+use flow_rule::AbstractState;
 
 /// A program point's address and then its return addresses.
 pub type Key = ArrayVec<u16, 9>;
@@ -16,20 +16,20 @@ pub type Key = ArrayVec<u16, 9>;
 pub struct Point {
     pub addr: u16,
     pub call_string: CallString,
-    pub state: Label,
+    pub state: AbstractState,
 }
 
 impl Point {
     /// Whether two are the same program point.
     pub fn is_same(&self, other: &Point) -> bool
-        ensures { result ≡ same_pair (pair_of self.now) (pair_of other.now) }
+        ensures { result ≡ same_point (program_point self.now) (program_point other.now) }
     {
         self.addr == other.addr && self.call_string.same(&other.call_string)
     }
 
     /// Its address and return addresses.
     pub fn key(&self) -> Key
-        ensures { result.items ≡ key_of (pair_of self.now) }
+        ensures { result.items ≡ key_of (program_point self.now) }
     {
         let mut key = ArrayVec::new();
         key.push(self.addr);

@@ -4,7 +4,7 @@
 use crate::accesses::{reads_destination, writes_destination};
 use crate::domain::is_secret;
 use crate::memory::word_number;
-use flow_rule::{Label, Reach, Val};
+use flow_rule::{AbstractState, Reach, Val};
 use insn_decode::{Insn, OneOp, Operand, TwoOp};
 use mod_layout::Module;
 use sm_words::Width;
@@ -234,7 +234,7 @@ impl Relevance {
     }
 
     /// A state that subsumes this one and has as little in it as was needed.
-    pub fn least(&self, state: &Label) -> Label {
+    pub fn least(&self, state: &AbstractState) -> AbstractState {
         let mut top = *state;
         for n in 0..16 {
             if !self.known.has(n) {
@@ -251,7 +251,7 @@ impl Relevance {
 }
 
 /// A state that subsumes this one and is Secret where another is.
-pub fn like(near: &Label, state: &Label) -> Label {
+pub fn like(near: &AbstractState, state: &AbstractState) -> AbstractState {
     let mut top = *state;
     for n in 0..16 {
         if is_secret(near.core[n]) {

@@ -7,23 +7,23 @@ ghost use Rattle.std.specs.Prelude.{None, true, slice_get, All, []};
 ghost use Rattle.flow_check.specs.declared.program.Program.{Program};
 ghost use Rattle.flow_check.specs.internal.Points.{addrs_of, point_at};
 ghost use Rattle.flow_check.specs.internal.Programs.{flow, flow_at};
-ghost use Rattle.flow_check.specs.internal.Summaries.{blank_label, branch_from, OpensTo, IsSummary, AreSummaries};
+ghost use Rattle.flow_check.specs.internal.Summaries.{blank_state, branch_from, OpensTo, IsSummary, AreSummaries};
 ghost use Rattle.flow_check.specs.declared.summaries.Outcome.{Outcome};
-ghost use Rattle.flow_rule.specs.Rounds.{given_by};
+ghost use Rattle.flow_rule.specs.Iterations.{given_by};
 ghost use Rattle.flow_check.specs.declared.violation.Violation.{Violation};
 ghost use Rattle.flow_check.specs.internal.Violations.{noted};
 ghost use Rattle.flow_check.specs.internal.Steps.{SuccessorsAlike};
 
 use crate::branch::{BranchSite, is_same, site_of, walk_arms};
 use crate::call_string::CallString;
-use crate::domain::{blank_label, overlay_label, subsumes};
+use crate::domain::{blank_state, overlay_state, subsumes};
 use crate::point::Point;
 use crate::program::Program;
 use crate::relevant::{Relevance, like};
 use crate::step::Stepped;
 use crate::stub::{step_base, step_point};
 use crate::violation::{Violation, note};
-use flow_rule::{Label, Reason, arms_rest};
+use flow_rule::{AbstractState, Reason, arms_rest};
 use std::alloc::{AllocError, Global};
 
 /// How many numbers branches have.
@@ -33,7 +33,7 @@ const NUMBERS: usize = 256;
 #[derive(Clone, Copy)]
 pub enum Answer {
     /// No violation, also under each state that the summary's subsumes. The arms write where this is not Public.
-    Open(Label),
+    Open(AbstractState),
     /// A violation, also under each state that subsumes the summary's.
     Shut,
 }
@@ -50,7 +50,7 @@ pub enum Outcome {
 pub struct Summary {
     pub branch: u16,
     pub site: BranchSite,
-    pub state: Label,
+    pub state: AbstractState,
     pub answer: Answer,
 }
 
@@ -67,7 +67,7 @@ fn walked(
     program: &Program<'_>,
     site: &BranchSite,
     pc: u16,
-    state: &Label,
+    state: &AbstractState,
     relevance: &mut Relevance,
 ) -> Summary
     ensures is { IsSummary program.now result }
@@ -75,7 +75,7 @@ fn walked(
     ensures site { result.site ≡ site.now }
     ensures state { result.state ≡ state.now }
 {
-    let mut told = blank_label();
+    let mut told = blank_state();
     let mut least: Option<Violation> = None;
     let from = Point {
         addr: pc,
@@ -96,17 +96,17 @@ fn walked(
 }
 
 /// Walks the arms of a branch under its state, and writes what they write where there is no violation.
-fn applied(program: &Program<'_>, site: &BranchSite, pc: u16, state: &mut Label) -> Outcome
-    ensures open { result ≡ Outcome.Open → (returns : List ℕ) →
-        OpensTo program.now site.now (branch_from pc returns state.old) state.new }
-    ensures shut { result ≡ Outcome.Shut → (returns : List ℕ) →
-        (flow_at program.now site.now (branch_from pc returns state.old)).violations ≢ [] }
+fn applied(program: &Program<'_>, site: &BranchSite, pc: u16, state: &mut AbstractState) -> Outcome
+    ensures open { result ≡ Outcome.Open → (call_string : List ℕ) →
+        OpensTo program.now site.now (branch_from pc call_string state.old) state.new }
+    ensures shut { result ≡ Outcome.Shut → (call_string : List ℕ) →
+        (flow_at program.now site.now (branch_from pc call_string state.old)).violations ≢ [] }
 {
     arms_rest();
     let mut none = Relevance::new(false);
     match walked(program, site, pc, state, &mut none).answer {
         Answer::Open(told) => {
-            overlay_label(state, &told);
+            overlay_state(state, &told);
             Outcome::Open
         }
         Answer::Shut => Outcome::Shut,
@@ -146,7 +146,7 @@ fn learned(
     site: &BranchSite,
     near: Option<Summary>,
     pc: u16,
-    state: &Label,
+    state: &AbstractState,
 ) -> Summary
     ensures { IsSummary program.now result }
 {
@@ -196,12 +196,18 @@ impl Summaries {
     }
 
     /// What the summary there says of a branch under a state. Where the branch is open, its arms then write.
-    fn answer(&self, place: usize, site: &BranchSite, pc: u16, state: &mut Label) -> Option<Outcome>
-        ensures open { result ≡ Some Outcome.Open → (p : Program) (returns : List ℕ) →
-            AreSummaries p self.now.list.items → OpensTo p site.now (branch_from pc returns state.old) state.new }
-        ensures shut { result ≡ Some Outcome.Shut → (p : Program) (returns : List ℕ) →
+    fn answer(
+        &self,
+        place: usize,
+        site: &BranchSite,
+        pc: u16,
+        state: &mut AbstractState,
+    ) -> Option<Outcome>
+        ensures open { result ≡ Some Outcome.Open → (p : Program) (call_string : List ℕ) →
+            AreSummaries p self.now.list.items → OpensTo p site.now (branch_from pc call_string state.old) state.new }
+        ensures shut { result ≡ Some Outcome.Shut → (p : Program) (call_string : List ℕ) →
             AreSummaries p self.now.list.items →
-            (flow_at p site.now (branch_from pc returns state.old)).violations ≢ [] }
+            (flow_at p site.now (branch_from pc call_string state.old)).violations ≢ [] }
         ensures silent { result ≡ None → state.new ≡ state.old }
     {
         arms_rest();
@@ -211,7 +217,7 @@ impl Summaries {
         match summary.answer {
             Answer::Open(told) => {
                 if subsumes(&summary.state, state) {
-                    overlay_label(state, &told);
+                    overlay_state(state, &told);
                     Some(Outcome::Open)
                 } else {
                     None
@@ -233,13 +239,13 @@ impl Summaries {
         own: Option<usize>,
         site: &BranchSite,
         pc: u16,
-        state: &mut Label,
+        state: &mut AbstractState,
     ) -> Option<Outcome>
-        ensures open { result ≡ Some Outcome.Open → (p : Program) (returns : List ℕ) →
-            AreSummaries p self.now.list.items → OpensTo p site.now (branch_from pc returns state.old) state.new }
-        ensures shut { result ≡ Some Outcome.Shut → (p : Program) (returns : List ℕ) →
+        ensures open { result ≡ Some Outcome.Open → (p : Program) (call_string : List ℕ) →
+            AreSummaries p self.now.list.items → OpensTo p site.now (branch_from pc call_string state.old) state.new }
+        ensures shut { result ≡ Some Outcome.Shut → (p : Program) (call_string : List ℕ) →
             AreSummaries p self.now.list.items →
-            (flow_at p site.now (branch_from pc returns state.old)).violations ≢ [] }
+            (flow_at p site.now (branch_from pc call_string state.old)).violations ≢ [] }
         ensures silent { result ≡ None → state.new ≡ state.old }
     {
         if let Some(place) = own
@@ -271,13 +277,13 @@ impl Summaries {
         site: &BranchSite,
         own: &mut Option<usize>,
         pc: u16,
-        state: &mut Label,
+        state: &mut AbstractState,
     ) -> Result<Outcome, AllocError>
         requires summaries { AreSummaries program.now self.old.list.items }
-        ensures open { IfOk result (λ outcome. outcome ≡ Outcome.Open → (returns : List ℕ) →
-            OpensTo program.now site.now (branch_from pc returns state.old) state.new) }
-        ensures shut { IfOk result (λ outcome. outcome ≡ Outcome.Shut → (returns : List ℕ) →
-            (flow_at program.now site.now (branch_from pc returns state.old)).violations ≢ []) }
+        ensures open { IfOk result (λ outcome. outcome ≡ Outcome.Open → (call_string : List ℕ) →
+            OpensTo program.now site.now (branch_from pc call_string state.old) state.new) }
+        ensures shut { IfOk result (λ outcome. outcome ≡ Outcome.Shut → (call_string : List ℕ) →
+            (flow_at program.now site.now (branch_from pc call_string state.old)).violations ≢ []) }
         ensures summaries { IfOk result (λ _. AreSummaries program.now self.new.list.items) }
     {
         if let Some(outcome) = self.known(*own, site, pc, state) {
@@ -294,9 +300,15 @@ impl Summaries {
     }
 
     /// Whether it is known that a branch has no violation under its state.
-    pub fn is_open(&self, own: Option<usize>, site: &BranchSite, pc: u16, state: &Label) -> bool
-        ensures { result ≡ true → (p : Program) (returns : List ℕ) → AreSummaries p self.now.list.items →
-            (flow_at p site.now (branch_from pc returns state.now)).violations ≡ [] }
+    pub fn is_open(
+        &self,
+        own: Option<usize>,
+        site: &BranchSite,
+        pc: u16,
+        state: &AbstractState,
+    ) -> bool
+        ensures { result ≡ true → (p : Program) (call_string : List ℕ) → AreSummaries p self.now.list.items →
+            (flow_at p site.now (branch_from pc call_string state.now)).violations ≡ [] }
     {
         let mut state = *state;
         match self.known(own, site, pc, &mut state) {

@@ -1,8 +1,8 @@
 //! The verdict of the fixpoint: the least violation, or yes.
 
 ghost use Rattle.std.specs.Prelude.{◌≡◌, ◌≤◌, ◌<◌, ◌+◌, [], length, drop, ℕ, IfOk, None};
-ghost use Rattle.flow_rule.specs.declared.Label.{Label};
-ghost use Rattle.flow_rule.specs.Rounds.{all_violations, Point, IsLabelling};
+ghost use Rattle.flow_rule.specs.declared.AbstractState.{AbstractState};
+ghost use Rattle.flow_rule.specs.Iterations.{all_violations, PointState, IsLabelling};
 ghost use Rattle.flow_rule.specs.Verdict.{Decided};
 ghost use Rattle.flow_check.specs.internal.Violations.{verdict_of, noted};
 ghost use Rattle.flow_check.specs.internal.Points.{points_of};
@@ -14,7 +14,7 @@ use crate::program::Program;
 use crate::summaries::{Summaries, violation_with};
 use crate::violation::Violation;
 use crate::worklist::iterate;
-use flow_rule::{Label, Reason, Verdict};
+use flow_rule::{AbstractState, Reason, Verdict};
 use std::alloc::{AllocError, Global};
 
 /// The lesser of a violation and those of a program point under its state.
@@ -67,7 +67,7 @@ fn verdict_of(least: Option<Violation>) -> Verdict
 fn decide(program: &Program<'_>, summaries: &Summaries, all: &Labelling) -> Verdict
     requires summaries { AreSummaries program.now summaries.now.list.items }
     requires fit { length all.now ≤ 16384 }
-    ensures { (start : Point) (begin : ℕ) →
+    ensures { (start : PointState) (begin : ℕ) →
         IsLabelling (flow program.now) start (points_of all.now) →
         Decided (flow program.now) start begin result }
 {
@@ -80,13 +80,12 @@ pub fn verdict(
     alloc: Global,
     program: &Program<'_>,
     start: u16,
-    first: &Label,
+    first: &AbstractState,
 ) -> Result<Verdict, AllocError>
     ensures { IfOk result (λ v. Decided
         (flow program.now) record {
-          pair = record { addr = start; returns = [] };
-          label =
-              first.now;
+          point = record { addr = start; call_string = [] };
+          state = first.now;
         } program.now.module.now.text.start v) }
 {
     let mut all = Labelling::begin(alloc, start, first)?;

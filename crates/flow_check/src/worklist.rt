@@ -1,7 +1,7 @@
 //! The worklist: which program points changed in the last iteration, and what they give, until the fixpoint.
 
 ghost use Rattle.std.specs.Prelude.{◌≡◌, ◌≤◌, ◌<◌, ◌∷◌, List, length, true, false, IfOk};
-ghost use Rattle.flow_rule.specs.Rounds.{join_all, given_points};
+ghost use Rattle.flow_rule.specs.Iterations.{join_all, given_points};
 ghost use Rattle.flow_check.specs.internal.Points.{fronts_of, points_of};
 ghost use Rattle.flow_check.specs.internal.Programs.{flow};
 ghost use Rattle.flow_check.specs.internal.Summaries.{AreSummaries};

@@ -1,4 +1,4 @@
--- What an instruction reaches and does under a label, and under one that this one absorbs.
+-- What an instruction reaches and does under a state, and under one that this one absorbs.
 use Rattle.std.proofs.Common.{◌≡◌, ℕ, ◌*◌, List, [], ◌∷◌, ◌++◌, drop, map, append_assoc, refl, sym, ap, ◌∙◌, subst, Bool, true, false, cond, ◌==◌, ◌&&◌, Option, Some, None}
 use Rattle.std.proofs.lemmas.List.{set-set}
 use Rattle.sm_words.specs.Words.{nth, add16, bit, word_at}

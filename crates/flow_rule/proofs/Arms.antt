@@ -25,12 +25,12 @@ use Rattle.mod_layout.specs.Table.{holds}
 use Rattle.cpu_step.specs.Asked.{asks}
 use Rattle.cpu_step.specs.Lone.{Job, Lone, lone_step, job_of}
 use Rattle.flow_rule.specs.Terms.{Terms}
-use Rattle.flow_rule.specs.declared.Label.{Label}
+use Rattle.flow_rule.specs.declared.AbstractState.{AbstractState}
 use Rattle.flow_rule.specs.declared.Val.{Val}
 use Rattle.flow_rule.specs.declared.Val.TheVariants.{Known, Away, Public, Secret}
 use Rattle.flow_rule.specs.Values.{is_secret, set_each, val, put_val, kept_val}
 use Rattle.flow_rule.specs.declared.Reason.TheVariants.{SecretBranch, Arm as ArmInsn}
-use Rattle.flow_rule.specs.Rounds.{Point, RuleViolation, FlowStep}
+use Rattle.flow_rule.specs.Iterations.{PointState, RuleViolation, FlowStep}
 use Rattle.flow_rule.specs.Does.{does_val, past_val}
 use Rattle.flow_rule.specs.Violations.{violation_if}
 use Rattle.flow_rule.specs.Going.{goes, both, also}
@@ -110,7 +110,7 @@ module _ (terms : Terms) (key : List ℕ) (m : Module) (text : List ℕ) (caller
   j = job_of key m text caller
 
   -- what one instruction of an arm leaves of one run
-  record Moved (x : Point) (gives : List Point) (c d : List ℕ) (cycles : ℕ) (rs ws : List ℕ) : Type 0 where
+  record Moved (x : PointState) (gives : List PointState) (c d : List ℕ) (cycles : ℕ) (rs ws : List ℕ) : Type 0 where
     core : List ℕ
     data_left : List ℕ
     pass : Passes j cycles (at_rest c d) (at_rest core data_left)
@@ -146,14 +146,14 @@ module _ (terms : Terms) (key : List ℕ) (m : Module) (text : List ℕ) (caller
   data_other : (v : List Val) (a b : List ℕ) → AgreeData m v a b → AgreeData m v b b
   data_other v a b h = record { is_a = h.is_b; is_b = h.is_b; at = λ i. agree_other m.text (nth i v Secret) (word a i) (word b i) (h.at i) }
 
-  at_self : (x : Point) (ca da cb db : List ℕ) → AgreeAt m x ca da cb db → AgreeAt m x ca da ca da
-  at_self x ca da cb db h = record { pc_a = h.pc_a; pc_b = h.pc_a; core = core_self x.label.core ca cb h.core; words = data_self x.label.words da db h.words; in_text = h.in_text }
+  at_self : (x : PointState) (ca da cb db : List ℕ) → AgreeAt m x ca da cb db → AgreeAt m x ca da ca da
+  at_self x ca da cb db h = record { pc_a = h.pc_a; pc_b = h.pc_a; core = core_self x.state.core ca cb h.core; words = data_self x.state.words da db h.words; in_text = h.in_text }
 
-  at_other : (x : Point) (ca da cb db : List ℕ) → AgreeAt m x ca da cb db → AgreeAt m x cb db cb db
+  at_other : (x : PointState) (ca da cb db : List ℕ) → AgreeAt m x ca da cb db → AgreeAt m x cb db cb db
   at_other x ca da cb db h =
-      record { pc_a = h.pc_b; pc_b = h.pc_b; core = core_other x.label.core ca cb (ap (λ i. i % 2) (h.pc_b ∙ sym h.pc_a) ∙ h.core.even_pc) h.core; words = data_other x.label.words da db h.words; in_text = h.in_text }
+      record { pc_a = h.pc_b; pc_b = h.pc_b; core = core_other x.state.core ca cb (ap (λ i. i % 2) (h.pc_b ∙ sym h.pc_a) ∙ h.core.even_pc) h.core; words = data_other x.state.words da db h.words; in_text = h.in_text }
 
-  single_self : (gives : List Point) (ca da cb db : List ℕ) → Single terms m gives ca da cb db → Single terms m gives ca da ca da
+  single_self : (gives : List PointState) (ca da cb db : List ℕ) → Single terms m gives ca da cb db → Single terms m gives ca da ca da
   single_self gives ca da cb db (Here y one at) = Here y one (at_self y ca da cb db at)
   single_self gives ca da cb db (Gone nothing same out_a out_b p q agree) = Gone nothing refl out_a out_a p p (λ i d lt. refl)
 
@@ -170,7 +170,7 @@ module _ (terms : Terms) (key : List ℕ) (m : Module) (text : List ℕ) (caller
   conf_long c x = length-set x 2 _
 
   -- length and mode by the agreement that the instruction leaves
-  by_parts : (insn : Insn) (x : Point) (gives : List Point) (c d : List ℕ) (q : Parts terms key m text caller shape insn gives c d c d) → 0 < cycles_of insn → (rs ws : List ℕ) →
+  by_parts : (insn : Insn) (x : PointState) (gives : List PointState) (c d : List ℕ) (q : Parts terms key m text caller shape insn gives c d c d) → 0 < cycles_of insn → (rs ws : List ℕ) →
       length (next_core insn c q.values_a) ≡ 16 →
       ((k : ℕ) → k ≢ 0 → k ≢ 2 → NotIn k rs → reg (next_core insn c q.values_a) k ≡ reg c k) → ((i : ℕ) → NotIn i ws → word q.left_a i ≡ word d i) → Moved x gives c d (cycles_of insn) rs ws
   by_parts insn x gives c d q some rs ws long regs words =
@@ -219,7 +219,7 @@ module _ (terms : Terms) (key : List ℕ) (m : Module) (text : List ℕ) (caller
   if_always true b c to next e = refl
   if_always false b c to next e = absurd cc
 
-  jump_move : (cn : Condition) (off : ℤ) (x : Point) (c d : List ℕ) → AgreeAt m x c d c d → met m.text text x.pair.addr ≡ Some (Jump cn off) → is_always cn ≡ true → (step_jump terms m text (Jump cn off) cn x).violations ≡ [] →
+  jump_move : (cn : Condition) (off : ℤ) (x : PointState) (c d : List ℕ) → AgreeAt m x c d c d → met m.text text x.point.addr ≡ Some (Jump cn off) → is_always cn ≡ true → (step_jump terms m text (Jump cn off) cn x).violations ≡ [] →
       Moved x (step_jump terms m text (Jump cn off) cn x).gives c d (cycles_of (Jump cn off)) [] (met_words (Some (Jump cn off)) m x)
   unfolding does_val cycles_of asks plan
   jump_move cn off x c d at e always none = by (is_always cn) always none
@@ -228,10 +228,10 @@ module _ (terms : Terms) (key : List ℕ) (m : Module) (text : List ℕ) (caller
       insn = Jump cn off
 
       goes_on : FlowStep
-      goes_on = goes terms m x.pair.addr x.pair.returns (way_val terms key m text caller shape cn off x c d c d at e true) x.label.words
+      goes_on = goes terms m x.point.addr x.point.call_string (way_val terms key m text caller shape cn off x c d c d at e true) x.state.words
 
       other : FlowStep
-      other = also (violation_if (is_secret (val x.label.core 2)) x.pair.addr SecretBranch 0) (both goes_on (goes terms m x.pair.addr x.pair.returns (past_val (Jump cn off) x.pair.addr x.label.core) x.label.words))
+      other = also (violation_if (is_secret (val x.state.core 2)) x.point.addr SecretBranch 0) (both goes_on (goes terms m x.point.addr x.point.call_string (past_val (Jump cn off) x.point.addr x.state.core) x.state.words))
 
       taken : jumps cn (reg c 2) ≡ true
       taken = always_jumps cn (reg c 2) always
@@ -256,27 +256,27 @@ module _ (terms : Terms) (key : List ℕ) (m : Module) (text : List ℕ) (caller
           }
 
   -- one instruction of an arm
-  arm_move : (x : Point) (c d : List ℕ) (join next : ℕ) → AgreeAt m x c d c d → arm_next join x.pair.addr (met m.text text x.pair.addr) ≡ Some next → (step_of terms m text x).violations ≡ [] →
-      Moved x (step_of terms m text x).gives c d (met_cycles (met m.text text x.pair.addr)) (met_regs (met m.text text x.pair.addr)) (met_words (met m.text text x.pair.addr) m x)
+  arm_move : (x : PointState) (c d : List ℕ) (join next : ℕ) → AgreeAt m x c d c d → arm_next join x.point.addr (met m.text text x.point.addr) ≡ Some next → (step_of terms m text x).violations ≡ [] →
+      Moved x (step_of terms m text x).gives c d (met_cycles (met m.text text x.point.addr)) (met_regs (met m.text text x.point.addr)) (met_words (met m.text text x.point.addr) m x)
   unfolding step_of
-  arm_move x c d join next at on none = by (met m.text text x.pair.addr) refl on none
+  arm_move x c d join next at on none = by (met m.text text x.point.addr) refl on none
     where
-      by : (o : Option Insn) → met m.text text x.pair.addr ≡ o → arm_next join x.pair.addr o ≡ Some next → (step_insn terms m text o x).violations ≡ [] → Moved x (step_insn terms m text o x).gives c d (met_cycles o) (met_regs o) (met_words o m x)
+      by : (o : Option Insn) → met m.text text x.point.addr ≡ o → arm_next join x.point.addr o ≡ Some next → (step_insn terms m text o x).violations ≡ [] → Moved x (step_insn terms m text o x).gives c d (met_cycles o) (met_regs o) (met_words o m x)
       by None e on none = absurd cc
       by (Some (Two op w s dst)) e on none =
-          let h = two_alike terms key m text caller shape op w s dst (met_regular m text x.pair.addr (Two op w s dst) e) in
+          let h = two_alike terms key m text caller shape op w s dst (met_regular m text x.point.addr (Two op w s dst) e) in
           let q = plain_parts terms key m text caller shape (Two op w s dst) h x c d c d at e none in
           by_parts (Two op w s dst) x (step_plain terms m text (Two op w s dst) x).gives c d q (two_cycles_some op w s dst) _ _ (two_long op w s dst c q.values_a at.core.long_a)
           (λ k n0 n2 no. two_regs op w s dst c q.values_a k n0 n2 no) (λ i no. plain_kept terms key m text caller shape (Two op w s dst) h x c d c d at e none i no)
       by (Some (One op w a)) e on none = one op (not_call op on) e none
         where
-          not_call : (op : OneOp) → arm_next join x.pair.addr (Some (One op w a)) ≡ Some next → op ≢ Call
+          not_call : (op : OneOp) → arm_next join x.point.addr (Some (One op w a)) ≡ Some next → op ≢ Call
           not_call Call on f = absurd cc
           not_call _ on f = absurd cc
 
-          one : (op : OneOp) → op ≢ Call → met m.text text x.pair.addr ≡ Some (One op w a) → (step_plain terms m text (One op w a) x).violations ≡ [] → Moved x (step_plain terms m text (One op w a) x).gives c d (cycles_of (One op w a)) (written_regs (One op w a)) (met_words (Some (One op w a)) m x)
+          one : (op : OneOp) → op ≢ Call → met m.text text x.point.addr ≡ Some (One op w a) → (step_plain terms m text (One op w a) x).violations ≡ [] → Moved x (step_plain terms m text (One op w a) x).gives c d (cycles_of (One op w a)) (written_regs (One op w a)) (met_words (Some (One op w a)) m x)
           one op nc e none =
-              let r = met_regular m text x.pair.addr (One op w a) e in
+              let r = met_regular m text x.point.addr (One op w a) e in
               let h = one_alike terms key m text caller shape op w a r.0 in
               let q = plain_parts terms key m text caller shape (One op w a) h x c d c d at e none in
               by_parts (One op w a) x (step_plain terms m text (One op w a) x).gives c d q r.1 _ _ (one_long op w a c q.values_a nc at.core.long_a)
@@ -298,36 +298,36 @@ module _ (terms : Terms) (key : List ℕ) (m : Module) (text : List ℕ) (caller
     sr : mode (reg core 2) ≡ mode (reg c 2)
 
   -- a run that stands at a point, by itself
-  record Alone (x : Point) (c d : List ℕ) : Type 0 where
-    pc : reg c 0 ≡ x.pair.addr
-    core : AgreeCore m.text x.label.core c c
-    words : AgreeData m x.label.words d d
+  record Alone (x : PointState) (c d : List ℕ) : Type 0 where
+    pc : reg c 0 ≡ x.point.addr
+    core : AgreeCore m.text x.state.core c c
+    words : AgreeData m x.state.words d d
 
   -- other steps that do along an arm what the plain ones do
-  abbrev pub Refines : (Point → FlowStep) → Type 0
-  Refines S = (x : Point) (c d : List ℕ) (join next : ℕ) → AgreeAt m x c d c d → arm_next join x.pair.addr (met m.text text x.pair.addr) ≡ Some next → (S x).violations ≡ [] → ((step_of terms m text x).violations ≡ []) × ((S x).gives ≡ (step_of terms m text x).gives)
+  abbrev pub Refines : (PointState → FlowStep) → Type 0
+  Refines S = (x : PointState) (c d : List ℕ) (join next : ℕ) → AgreeAt m x c d c d → arm_next join x.point.addr (met m.text text x.point.addr) ≡ Some next → (S x).violations ≡ [] → ((step_of terms m text x).violations ≡ []) × ((S x).gives ≡ (step_of terms m text x).gives)
 
-  module _ (S : Point → FlowStep) (refine : Refines S) where
+  module _ (S : PointState → FlowStep) (refine : Refines S) where
     -- what a run does along each walk to the join in so many steps
     abbrev Arrives : ℕ → ℕ → Type 0
     Arrives join fuel =
-        (y : Point) (c d : List ℕ) → Alone y c d → MeetsJoin (walk S m text join fuel y) →
+        (y : PointState) (c d : List ℕ) → Alone y c d → MeetsJoin (walk S m text join fuel y) →
         Walked (walk S m text join fuel y) join c d
 
     -- the walk from a point, by where an arm goes on there
-    abbrev onward : ℕ → ℕ → Option ℕ → Point → Walk
+    abbrev onward : ℕ → ℕ → Option ℕ → PointState → Walk
     onward join fuel o x = walk_on o (S x).violations (S x).gives m text x (walk S m text join fuel)
 
-    abbrev met_at : Point → Option Insn
-    met_at x = met m.text text x.pair.addr
+    abbrev met_at : PointState → Option Insn
+    met_at x = met m.text text x.point.addr
 
-    abbrev MovedAt : Point → List Point → List ℕ → List ℕ → Type 0
+    abbrev MovedAt : PointState → List PointState → List ℕ → List ℕ → Type 0
     MovedAt x gives c d = Moved x gives c d (met_cycles (met_at x)) (met_regs (met_at x)) (met_words (met_at x) m x)
 
     -- past its first instruction
-    walk_more : (join fuel : ℕ) (x : Point) (c d : List ℕ) → AgreeAt m x c d c d → (next : ℕ) →
-        arm_next join x.pair.addr (met_at x) ≡ Some next → Arrives join fuel →
-        (rs : List RuleViolation) (gs : List Point) → (S x).violations ≡ rs → (S x).gives ≡ gs →
+    walk_more : (join fuel : ℕ) (x : PointState) (c d : List ℕ) → AgreeAt m x c d c d → (next : ℕ) →
+        arm_next join x.point.addr (met_at x) ≡ Some next → Arrives join fuel →
+        (rs : List RuleViolation) (gs : List PointState) → (S x).violations ≡ rs → (S x).gives ≡ gs →
         MeetsJoin (walk_on (Some next) rs gs m text x (walk S m text join fuel)) →
         Walked (walk_on (Some next) rs gs m text x (walk S m text join fuel)) join c d
     walk_more join fuel x c d at next on go (r ∷ rs) gs er eg meets = absurd meets
@@ -356,7 +356,7 @@ module _ (terms : Terms) (key : List ℕ) (m : Module) (text : List ℕ) (caller
             subst (λ z. Walked z join c d) (sym (is_met (met_at x) m x rest meets))
             (joined rest on_join (go y mv.core mv.data_left al on_join))
           where
-            first_of_points : List Point → Point
+            first_of_points : List PointState → PointState
             first_of_points [] = y
             first_of_points (z ∷ zs) = z
 
@@ -379,10 +379,10 @@ module _ (terms : Terms) (key : List ℕ) (m : Module) (text : List ℕ) (caller
                   sr = w.sr ∙ mv.sr;
                 }
 
-    walk_reach : (join fuel : ℕ) (x : Point) → MeetsJoin (walk S m text join fuel x) → x.pair.addr ≤ join
+    walk_reach : (join fuel : ℕ) (x : PointState) → MeetsJoin (walk S m text join fuel x) → x.point.addr ≤ join
     walk_reach join zero x meets = absurd meets
     walk_reach join (suc fuel) x meets =
-        by (x.pair.addr == join) refl (holds m.text x.pair.addr) (nat_lt x.pair.addr join) refl meets
+        by (x.point.addr == join) refl (holds m.text x.point.addr) (nat_lt x.point.addr join) refl meets
       where
         eq_le : (a : ℕ) → (a == join) ≡ true → a ≤ join
         eq_le a e = let k : a ≡ join = grind (arith, nat_tests) in omega arith
@@ -390,37 +390,37 @@ module _ (terms : Terms) (key : List ℕ) (m : Module) (text : List ℕ) (caller
         lt_le : (a : ℕ) → nat_lt a join ≡ true → a ≤ join
         lt_le a e = let k : a < join = grind (arith, nat_tests) in omega arith
 
-        by : (b : Bool) → (x.pair.addr == join) ≡ b → (p q : Bool) → nat_lt x.pair.addr join ≡ q →
-            MeetsJoin (cond b (Meets 0 [] []) (onward join fuel (cond (p && q) (arm_next join x.pair.addr (met_at x)) None) x)) →
-            x.pair.addr ≤ join
-        by true e p q f meets = eq_le x.pair.addr e
-        by false e true true f meets = lt_le x.pair.addr f
+        by : (b : Bool) → (x.point.addr == join) ≡ b → (p q : Bool) → nat_lt x.point.addr join ≡ q →
+            MeetsJoin (cond b (Meets 0 [] []) (onward join fuel (cond (p && q) (arm_next join x.point.addr (met_at x)) None) x)) →
+            x.point.addr ≤ join
+        by true e p q f meets = eq_le x.point.addr e
+        by false e true true f meets = lt_le x.point.addr f
         by false e true false f meets = absurd meets
         by false e false q f meets = absurd meets
 
     walk_arm : (join fuel : ℕ) → Arrives join fuel
     walk_arm join zero x c d at meets = absurd meets
     walk_arm join (suc fuel) x c d at meets =
-        by (x.pair.addr == join) refl (λ y c d al meets. walk_arm join fuel y c d al meets) meets
+        by (x.point.addr == join) refl (λ y c d al meets. walk_arm join fuel y c d al meets) meets
       where
-        by_next : (o : Option ℕ) → arm_next join x.pair.addr (met_at x) ≡ o → holds m.text x.pair.addr ≡ true →
+        by_next : (o : Option ℕ) → arm_next join x.point.addr (met_at x) ≡ o → holds m.text x.point.addr ≡ true →
             Arrives join fuel → MeetsJoin (onward join fuel o x) → Walked (onward join fuel o x) join c d
         by_next None e t go meets = absurd meets
         by_next (Some next) e t go meets =
             let here : AgreeAt m x c d c d = record { pc_a = at.pc; pc_b = at.pc; core = at.core; words = at.words; in_text = t } in
             walk_more join fuel x c d here next e go (S x).violations (S x).gives refl refl meets
 
-        by_test : (p q : Bool) → holds m.text x.pair.addr ≡ p → Arrives join fuel →
-            MeetsJoin (onward join fuel (cond (p && q) (arm_next join x.pair.addr (met_at x)) None) x) →
-            Walked (onward join fuel (cond (p && q) (arm_next join x.pair.addr (met_at x)) None) x) join c d
-        by_test true true e go meets = by_next (arm_next join x.pair.addr (met_at x)) refl e go meets
+        by_test : (p q : Bool) → holds m.text x.point.addr ≡ p → Arrives join fuel →
+            MeetsJoin (onward join fuel (cond (p && q) (arm_next join x.point.addr (met_at x)) None) x) →
+            Walked (onward join fuel (cond (p && q) (arm_next join x.point.addr (met_at x)) None) x) join c d
+        by_test true true e go meets = by_next (arm_next join x.point.addr (met_at x)) refl e go meets
         by_test true false e go meets = absurd meets
         by_test false q e go meets = absurd meets
 
         on : Option ℕ
-        on = cond (holds m.text x.pair.addr && nat_lt x.pair.addr join) (arm_next join x.pair.addr (met_at x)) None
+        on = cond (holds m.text x.point.addr && nat_lt x.point.addr join) (arm_next join x.point.addr (met_at x)) None
 
-        by : (b : Bool) → (x.pair.addr == join) ≡ b → Arrives join fuel →
+        by : (b : Bool) → (x.point.addr == join) ≡ b → Arrives join fuel →
             MeetsJoin (cond b (Meets 0 [] []) (onward join fuel on x)) →
             Walked (cond b (Meets 0 [] []) (onward join fuel on x)) join c d
         by true e go meets =
@@ -428,8 +428,8 @@ module _ (terms : Terms) (key : List ℕ) (m : Module) (text : List ℕ) (caller
               core = c;
               data_left = d;
               pass = refl;
-              here = at.pc ∙ same_addr x.pair.addr e;
-              fine = (x.label.core, at.core);
+              here = at.pc ∙ same_addr x.point.addr e;
+              fine = (x.state.core, at.core);
               is_data = at.words.is_a;
               regs = λ k n0 n2 no. refl;
               words = λ i no. refl;
@@ -438,14 +438,14 @@ module _ (terms : Terms) (key : List ℕ) (m : Module) (text : List ℕ) (caller
           where
             same_addr : (a : ℕ) → (a == join) ≡ true → a ≡ join
             same_addr a e = grind (arith, nat_tests)
-        by false e go meets = by_test (holds m.text x.pair.addr) (nat_lt x.pair.addr join) refl go meets
+        by false e go meets = by_test (holds m.text x.point.addr) (nat_lt x.point.addr join) refl go meets
 
 -- ---- what the arms write is Secret
 clobbered_core_long : (ns : List ℕ) (v : List Val) → length (clobbered_core ns v) ≡ length v
 clobbered_core_long [] v = refl
 clobbered_core_long (n ∷ ns) v = clobbered_core_long ns (put_val v n Secret) ∙ length-set v n (kept_val n Secret)
 
-clobbered_long : (w : Walk) (l : Label) → length (clobbered_by w l).core ≡ length l.core
+clobbered_long : (w : Walk) (l : AbstractState) → length (clobbered_by w l).core ≡ length l.core
 clobbered_long (Meets cycles regs words) l = clobbered_core_long regs l.core
 clobbered_long (Stops addr) l = refl
 
@@ -491,34 +491,34 @@ module _ (s : Section) where
   clobbered_at (k ∷ ns) v n a b h =
       clobbered_at ns (set v k Secret) n a b (λ no. one_clobbered_word v n k a b (λ ne. h (ne, no)))
 
-  walk_clobbers : (w : Walk) (l : Label) (n a b : ℕ) → (n ≡ 3 → (a ≡ 0) × (b ≡ 0)) →
+  walk_clobbers : (w : Walk) (l : AbstractState) (n a b : ℕ) → (n ≡ 3 → (a ≡ 0) × (b ≡ 0)) →
       (NotIn n (walk_regs w) → Agrees s (val l.core n) a b) → Agrees s (val (clobbered_by w l).core n) a b
   walk_clobbers (Meets cycles regs words) l n a b zero3 h = clobbered_core_at regs l.core n a b zero3 h
   walk_clobbers (Stops addr) l n a b zero3 h = h tt
 
-  walk_clobbers_word : (w : Walk) (l : Label) (n a b : ℕ) → (NotIn n (walk_words w) → Agrees s (nth n l.words Secret) a b) →
+  walk_clobbers_word : (w : Walk) (l : AbstractState) (n a b : ℕ) → (NotIn n (walk_words w) → Agrees s (nth n l.words Secret) a b) →
       Agrees s (nth n (clobbered_by w l).words Secret) a b
   walk_clobbers_word (Meets cycles regs words) l n a b h = clobbered_at words l.words n a b h
   walk_clobbers_word (Stops addr) l n a b h = h tt
 
 -- ---- both arms
-module _ (terms : Terms) (key : List ℕ) (m : Module) (text : List ℕ) (caller : ℕ) (shape : Shape m) (S : Point → FlowStep) (refine : Refines terms key m text caller shape S) (At : Standing) (down : (x : Point) (ca da cb db : List ℕ) → At x ca da cb db → AgreeAt m x ca da cb db)
-    (up : (x : Point) (ca da cb db : List ℕ) → At x ca da cb db → (cn : Condition) (off : ℤ) → met m.text text x.pair.addr ≡ Some (Jump cn off) → (y : Point) (pa qa pb qb : List ℕ) → kept 0 (add16 x.pair.addr 2) ≤ y.pair.addr → AgreeAt m y pa qa pb qb → At y pa qa pb qb)
-    (base : (x : Point) (ca da cb db : List ℕ) → At x ca da cb db → (S x).violations ≡ [] → Crossing terms m (job_of key m text caller) At (S x).gives (at_rest ca da) (at_rest cb db)) where
+module _ (terms : Terms) (key : List ℕ) (m : Module) (text : List ℕ) (caller : ℕ) (shape : Shape m) (S : PointState → FlowStep) (refine : Refines terms key m text caller shape S) (At : Standing) (down : (x : PointState) (ca da cb db : List ℕ) → At x ca da cb db → AgreeAt m x ca da cb db)
+    (up : (x : PointState) (ca da cb db : List ℕ) → At x ca da cb db → (cn : Condition) (off : ℤ) → met m.text text x.point.addr ≡ Some (Jump cn off) → (y : PointState) (pa qa pb qb : List ℕ) → kept 0 (add16 x.point.addr 2) ≤ y.point.addr → AgreeAt m y pa qa pb qb → At y pa qa pb qb)
+    (base : (x : PointState) (ca da cb db : List ℕ) → At x ca da cb db → (S x).violations ≡ [] → Crossing terms m (job_of key m text caller) At (S x).gives (at_rest ca da) (at_rest cb db)) where
   abbrev jj : Job
   jj = job_of key m text caller
 
-  module _ (cn : Condition) (off : ℤ) (arm : Arm) (x : Point) (ca da cb db : List ℕ) (at : AgreeAt m x ca da cb db) (met_it : met m.text text x.pair.addr ≡ Some (Jump cn off)) (secret : is_secret (val x.label.core 2) ≡ true) where
+  module _ (cn : Condition) (off : ℤ) (arm : Arm) (x : PointState) (ca da cb db : List ℕ) (at : AgreeAt m x ca da cb db) (met_it : met m.text text x.point.addr ≡ Some (Jump cn off)) (secret : is_secret (val x.state.core 2) ≡ true) where
     abbrev pc0 : ℕ
-    pc0 = x.pair.addr
+    pc0 = x.point.addr
 
     abbrev target : ℕ
     target = add16 (add16 pc0 2) (distance off)
 
     abbrev core_of : Bool → List Val
-    core_of t = cond t (put_val (past_val (Jump cn off) pc0 x.label.core) 0 (Known target)) (past_val (Jump cn off) pc0 x.label.core)
+    core_of t = cond t (put_val (past_val (Jump cn off) pc0 x.state.core) 0 (Known target)) (past_val (Jump cn off) pc0 x.state.core)
 
-    abbrev start_of_arm : Bool → Point
+    abbrev start_of_arm : Bool → PointState
     start_of_arm t = arm_start (Jump cn off) (cond t target (add16 pc0 2)) x (core_of t)
 
     abbrev walk_of : Bool → Walk
@@ -601,16 +601,16 @@ module _ (terms : Terms) (key : List ℕ) (m : Module) (text : List ℕ) (caller
     pick_word false k free0 free1 = free0
 
     -- Secret where the arm writes that the jump does not take, and where either does
-    abbrev clobbered_first : Label
-    clobbered_first = clobbered_by (walk_of false) x.label
+    abbrev clobbered_first : AbstractState
+    clobbered_first = clobbered_by (walk_of false) x.state
 
-    abbrev clobbered_both : Label
+    abbrev clobbered_both : AbstractState
     clobbered_both = clobbered_by (walk_of true) clobbered_first
 
-    abbrev joined_point : Point
+    abbrev joined_point : PointState
     joined_point = record {
-      pair = record { addr = arm.join; returns = x.pair.returns };
-      label = record { core = set clobbered_both.core 0 (Known arm.join); words = clobbered_both.words };
+      point = record { addr = arm.join; call_string = x.point.call_string };
+      state = record { core = set clobbered_both.core 0 (Known arm.join); words = clobbered_both.words };
     }
 
     joined_at : (ta tb : Bool) (p : Crossed ta ca da) (q : Crossed tb cb db) → holds m.text arm.join ≡ true → AgreeAt m joined_point p.core p.data_left q.core q.data_left
@@ -620,7 +620,7 @@ module _ (terms : Terms) (key : List ℕ) (m : Module) (text : List ℕ) (caller
           pc_b = q.here;
           core = record {
             short =
-                let same = length-set clobbered_both.core 0 (Known arm.join) ∙ clobbered_long (walk_of true) clobbered_first ∙ clobbered_long (walk_of false) x.label in
+                let same = length-set clobbered_both.core 0 (Known arm.join) ∙ clobbered_long (walk_of true) clobbered_first ∙ clobbered_long (walk_of false) x.state in
                 subst (λ i. i ≤ 16) (sym same) at.core.short;
             long_a = p.fine.1.long_a;
             long_b = q.fine.1.long_a;
@@ -637,9 +637,9 @@ module _ (terms : Terms) (key : List ℕ) (m : Module) (text : List ℕ) (caller
             is_b = q.is_data;
             at = λ i. walk_clobbers_word m.text (walk_of true) clobbered_first i
                 (word p.data_left i) (word q.data_left i)
-                (λ free1. walk_clobbers_word m.text (walk_of false) x.label i (word p.data_left i) (word q.data_left i)
-                (λ free0. subst (λ a. Agrees m.text (nth i x.label.words Secret) a (word q.data_left i)) (sym (p.words i (pick_word ta i free0 free1)))
-                (subst (λ b. Agrees m.text (nth i x.label.words Secret) (word da i) b) (sym (q.words i (pick_word tb i free0 free1))) (at.words.at i))));
+                (λ free1. walk_clobbers_word m.text (walk_of false) x.state i (word p.data_left i) (word q.data_left i)
+                (λ free0. subst (λ a. Agrees m.text (nth i x.state.words Secret) a (word q.data_left i)) (sym (p.words i (pick_word ta i free0 free1)))
+                (subst (λ b. Agrees m.text (nth i x.state.words Secret) (word da i) b) (sym (q.words i (pick_word tb i free0 free1))) (at.words.at i))));
           };
           in_text = inn;
         }
@@ -651,11 +651,11 @@ module _ (terms : Terms) (key : List ℕ) (m : Module) (text : List ℕ) (caller
         is_flag Secret e a b = tt
         is_flag _ e a b = absurd cc
 
-        others : (n : ℕ) → n ≢ 0 → (t : Bool) → (n == 2) ≡ t → NotIn n (walk_regs (walk_of false)) → NotIn n (walk_regs (walk_of true)) → Agrees m.text (val x.label.core n) (reg p.core n) (reg q.core n)
-        others n n0 true e free0 free1 = let k : n ≡ 2 = grind (arith, nat_tests) in subst (λ i. Agrees m.text (val x.label.core i) (reg p.core n) (reg q.core n)) (sym k) (is_flag (val x.label.core 2) secret (reg p.core n) (reg q.core n))
+        others : (n : ℕ) → n ≢ 0 → (t : Bool) → (n == 2) ≡ t → NotIn n (walk_regs (walk_of false)) → NotIn n (walk_regs (walk_of true)) → Agrees m.text (val x.state.core n) (reg p.core n) (reg q.core n)
+        others n n0 true e free0 free1 = let k : n ≡ 2 = grind (arith, nat_tests) in subst (λ i. Agrees m.text (val x.state.core i) (reg p.core n) (reg q.core n)) (sym k) (is_flag (val x.state.core 2) secret (reg p.core n) (reg q.core n))
         others n n0 false e free0 free1 =
             let n2 : n ≢ 2 = grind (arith, nat_tests) in
-            subst (λ a. Agrees m.text (val x.label.core n) a (reg q.core n)) (sym (p.regs n n0 n2 (pick ta n free0 free1))) (subst (λ b. Agrees m.text (val x.label.core n) (reg ca n) b) (sym (q.regs n n0 n2 (pick tb n free0 free1))) (at.core.at n))
+            subst (λ a. Agrees m.text (val x.state.core n) a (reg q.core n)) (sym (p.regs n n0 n2 (pick ta n free0 free1))) (subst (λ b. Agrees m.text (val x.state.core n) (reg ca n) b) (sym (q.regs n n0 n2 (pick tb n free0 free1))) (at.core.at n))
 
         zeros : (n : ℕ) → n ≡ 3 → (reg p.core n ≡ 0) × (reg q.core n ≡ 0)
         zeros n e = (ap (λ i. reg p.core i) e ∙ p.fine.1.zero_a, ap (λ i. reg q.core i) e ∙ q.fine.1.zero_a)
@@ -670,7 +670,7 @@ module _ (terms : Terms) (key : List ℕ) (m : Module) (text : List ℕ) (caller
             let n0 : n ≢ 0 = grind (arith, nat_tests) in
             subst (λ u. Agrees m.text u (reg p.core n) (reg q.core n)) (sym (get_or-set_other clobbered 0 n (Known arm.join) Secret n0))
             (walk_clobbers m.text (walk_of true) clobbered_first n (reg p.core n) (reg q.core n) (zeros n)
-            (λ free1. walk_clobbers m.text (walk_of false) x.label n (reg p.core n) (reg q.core n) (zeros n) (λ free0. others n n0 (n == 2) refl free0 free1)))
+            (λ free1. walk_clobbers m.text (walk_of false) x.state n (reg p.core n) (reg q.core n) (zeros n) (λ free0. others n n0 (n == 2) refl free0 free1)))
 
     arm_crossing : At x ca da cb db → (step_arm S m text (Jump cn off) target arm x).violations ≡ [] → Crossing terms m jj At (step_arm S m text (Jump cn off) target arm x).gives (at_rest ca da) (at_rest cb db)
     unfolding does_val
@@ -710,27 +710,27 @@ module _ (terms : Terms) (key : List ℕ) (m : Module) (text : List ℕ) (caller
         pick_time false p q = p
 
   -- ---- every step, with certificates
-  pub arms_crossing : (arms : List Arm) (x : Point) (ca da cb db : List ℕ) → At x ca da cb db → (step_arms S arms m text x).violations ≡ [] →
+  pub arms_crossing : (arms : List Arm) (x : PointState) (ca da cb db : List ℕ) → At x ca da cb db → (step_arms S arms m text x).violations ≡ [] →
       Crossing terms m jj At (step_arms S arms m text x).gives (at_rest ca da) (at_rest cb db)
   unfolding step_arms
-  arms_crossing arms x ca da cb db at none = by (met m.text text x.pair.addr) refl none
+  arms_crossing arms x ca da cb db at none = by (met m.text text x.point.addr) refl none
     where
       plain : (S x).violations ≡ [] → Crossing terms m jj At (S x).gives (at_rest ca da) (at_rest cb db)
       plain none = base x ca da cb db at none
 
-      found : (cn : Condition) (off : ℤ) → met m.text text x.pair.addr ≡ Some (Jump cn off) → is_secret (val x.label.core 2) ≡ true → (o : Option Arm) →
-          (step_branch o S m text (Jump cn off) x (add16 (add16 x.pair.addr 2) (distance off))).violations ≡ [] →
-          Crossing terms m jj At (step_branch o S m text (Jump cn off) x (add16 (add16 x.pair.addr 2) (distance off))).gives (at_rest ca da) (at_rest cb db)
+      found : (cn : Condition) (off : ℤ) → met m.text text x.point.addr ≡ Some (Jump cn off) → is_secret (val x.state.core 2) ≡ true → (o : Option Arm) →
+          (step_branch o S m text (Jump cn off) x (add16 (add16 x.point.addr 2) (distance off))).violations ≡ [] →
+          Crossing terms m jj At (step_branch o S m text (Jump cn off) x (add16 (add16 x.point.addr 2) (distance off))).gives (at_rest ca da) (at_rest cb db)
       found cn off e s None none = plain none
       found cn off e s (Some arm) none = arm_crossing cn off arm x ca da cb db (down x ca da cb db at) e s at none
 
-      jump_by : (cn : Condition) (off : ℤ) → met m.text text x.pair.addr ≡ Some (Jump cn off) → (a b : Bool) → is_secret (val x.label.core 2) ≡ b →
-          (cond (a && b) (step_branch (find (λ arm. arm.branch == x.pair.addr) arms) S m text (Jump cn off) x (add16 (add16 x.pair.addr 2) (distance off))) (S x)).violations ≡ [] →
-          Crossing terms m jj At (cond (a && b) (step_branch (find (λ arm. arm.branch == x.pair.addr) arms) S m text (Jump cn off) x (add16 (add16 x.pair.addr 2) (distance off))) (S x)).gives (at_rest ca da) (at_rest cb db)
-      jump_by cn off e true true s none = found cn off e s (find (λ arm. arm.branch == x.pair.addr) arms) none
+      jump_by : (cn : Condition) (off : ℤ) → met m.text text x.point.addr ≡ Some (Jump cn off) → (a b : Bool) → is_secret (val x.state.core 2) ≡ b →
+          (cond (a && b) (step_branch (find (λ arm. arm.branch == x.point.addr) arms) S m text (Jump cn off) x (add16 (add16 x.point.addr 2) (distance off))) (S x)).violations ≡ [] →
+          Crossing terms m jj At (cond (a && b) (step_branch (find (λ arm. arm.branch == x.point.addr) arms) S m text (Jump cn off) x (add16 (add16 x.point.addr 2) (distance off))) (S x)).gives (at_rest ca da) (at_rest cb db)
+      jump_by cn off e true true s none = found cn off e s (find (λ arm. arm.branch == x.point.addr) arms) none
       jump_by cn off e true false s none = plain none
       jump_by cn off e false b s none = plain none
 
-      by : (o : Option Insn) → met m.text text x.pair.addr ≡ o → (step_arms_by o S arms m text x).violations ≡ [] → Crossing terms m jj At (step_arms_by o S arms m text x).gives (at_rest ca da) (at_rest cb db)
-      by (Some (Jump cn off)) e none = jump_by cn off e (not (is_always cn)) (is_secret (val x.label.core 2)) refl none
+      by : (o : Option Insn) → met m.text text x.point.addr ≡ o → (step_arms_by o S arms m text x).violations ≡ [] → Crossing terms m jj At (step_arms_by o S arms m text x).gives (at_rest ca da) (at_rest cb db)
+      by (Some (Jump cn off)) e none = jump_by cn off e (not (is_always cn)) (is_secret (val x.state.core 2)) refl none
       by _ e none = plain none

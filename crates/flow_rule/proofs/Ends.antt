@@ -1,19 +1,19 @@
--- Rounds end: each has a pair more, or leaves the labels less far to rise, or changes nothing. So every text has a verdict.
+-- Iterations end: each has a point more, or leaves the states less far to rise, or changes nothing. So every text has a verdict.
 use Rattle.std.proofs.Common.{◌≡◌, ◌⊎◌, inl, inr, ℕ, zero, suc, ◌+◌, ◌<◌, ◌≤◌, List, [], ◌∷◌, length, Bool, true, false, cond, refl, sym, ◌∙◌, ap, subst, arith}
 use Rattle.std.specs.Prelude.{◌==◌}
 use Rattle.std.proofs.lemmas.Bool.{cases_lt}
-use Rattle.flow_rule.specs.declared.Label.{Label}
+use Rattle.flow_rule.specs.declared.AbstractState.{AbstractState}
 use Rattle.flow_rule.specs.declared.Reason.TheVariants.{TooMany}
 use Rattle.flow_rule.specs.declared.Val.{Val}
 use Rattle.flow_rule.specs.declared.Val.TheVariants.{Known, Away, Public, Secret}
 use Rattle.flow_rule.specs.declared.Verdict.{Verdict}
 use Rattle.flow_rule.specs.declared.Verdict.TheVariants.{Yes, No}
 use Rattle.flow_rule.specs.Violations.{number_of, NotAfter, BeforeAll, AmongThem}
-use Rattle.flow_rule.specs.Rounds.{Point, RuleViolation, FlowStep, same_pair, join_label, join_in, join_all, given_points, round, rounds, IsLabelling, all_violations}
+use Rattle.flow_rule.specs.Iterations.{PointState, RuleViolation, FlowStep, same_point, join_states, join_in, join_all, given_points, iteration, iterations, IsLabelling, all_violations}
 use Rattle.flow_rule.specs.Values.{join, join_each}
-use Rattle.flow_rule.specs.Verdict.{Decided, most_pairs}
+use Rattle.flow_rule.specs.Verdict.{Decided, most_points}
 
--- ---- how far labels can rise
+-- ---- how far states can rise
 
 -- of a value, and 1 for its place, so that a shorter list has less as well
 abbrev left : Val → ℕ
@@ -26,12 +26,12 @@ abbrev left_all : List Val → ℕ
 left_all [] = 0
 left_all (v ∷ vs) = left v + left_all vs
 
-abbrev left_label : Label → ℕ
-left_label l = left_all l.core + left_all l.words
+abbrev left_of_state : AbstractState → ℕ
+left_of_state l = left_all l.core + left_all l.words
 
-abbrev left_of : List Point → ℕ
+abbrev left_of : List PointState → ℕ
 left_of [] = 0
-left_of (x ∷ xs) = left_label x.label + left_of xs
+left_of (x ∷ xs) = left_of_state x.state + left_of xs
 
 some_left : (v : Val) → 1 ≤ left v
 some_left (Known a) = omega arith
@@ -62,26 +62,26 @@ each_left (v ∷ vs) (w ∷ ws) = by (join_left v w) (each_left vs ws)
     by (inr h) (inl f) = let g = ap left_all f in inr (omega (arith, g, h))
     by (inr h) (inr k) = inr (omega (arith, h, k))
 
-label_left : (a b : Label) → (join_label a b ≡ a) ⊎ (left_label (join_label a b) < left_label a)
-label_left a b = by (each_left a.core b.core) (each_left a.words b.words)
+state_left : (a b : AbstractState) → (join_states a b ≡ a) ⊎ (left_of_state (join_states a b) < left_of_state a)
+state_left a b = by (each_left a.core b.core) (each_left a.words b.words)
   where
-    label : List Val → List Val → Label
-    label c w = record { core = c; words = w }
+    state : List Val → List Val → AbstractState
+    state c w = record { core = c; words = w }
 
     by : (join_each a.core b.core ≡ a.core) ⊎ (left_all (join_each a.core b.core) < left_all a.core) → (join_each a.words b.words ≡ a.words) ⊎ (left_all (join_each a.words b.words) < left_all a.words) →
-        (join_label a b ≡ a) ⊎ (left_label (join_label a b) < left_label a)
-    by (inl e) (inl f) = inl (ap (λ c. label c (join_each a.words b.words)) e ∙ ap (λ w. label a.core w) f)
+        (join_states a b ≡ a) ⊎ (left_of_state (join_states a b) < left_of_state a)
+    by (inl e) (inl f) = inl (ap (λ c. state c (join_each a.words b.words)) e ∙ ap (λ w. state a.core w) f)
     by (inl e) (inr k) = let g = ap left_all e in inr (omega (arith, g, k))
     by (inr h) (inl f) = let g = ap left_all f in inr (omega (arith, g, h))
     by (inr h) (inr k) = inr (omega (arith, h, k))
 
 -- ---- what joins do
 
--- a pair more, or as many, where nothing changed or the labels have less far to rise
-abbrev Moves : List Point → List Point → Type 0
+-- a point more, or as many, where nothing changed or the states have less far to rise
+abbrev Moves : List PointState → List PointState → Type 0
 Moves xs ys = (length xs < length ys) ⊎ ((length ys ≡ length xs) × ((ys ≡ xs) ⊎ (left_of ys < left_of xs)))
 
-moves_then : (xs ys zs : List Point) → Moves xs ys → Moves ys zs → Moves xs zs
+moves_then : (xs ys zs : List PointState) → Moves xs ys → Moves ys zs → Moves xs zs
 moves_then xs ys zs (inl h) (inl k) = inl (omega (arith, h, k))
 moves_then xs ys zs (inl h) (inr (e, r)) = inl (omega (arith, h, e))
 moves_then xs ys zs (inr (e, r)) (inl h) = inl (omega (arith, e, h))
@@ -90,48 +90,48 @@ moves_then xs ys zs (inr (e, inl f)) (inr (g, inr h)) = let k = ap left_of f in 
 moves_then xs ys zs (inr (e, inr f)) (inr (g, inl h)) = let k = ap left_of h in inr (g ∙ e, inr (omega (arith, k, f)))
 moves_then xs ys zs (inr (e, inr f)) (inr (g, inr h)) = inr (g ∙ e, inr (omega (arith, f, h)))
 
-in_moves : (x : Point) (ys : List Point) → Moves ys (join_in x ys)
+in_moves : (x : PointState) (ys : List PointState) → Moves ys (join_in x ys)
 in_moves x [] = inl (omega arith)
-in_moves x (y ∷ ys) = by (same_pair y.pair x.pair) (label_left y.label x.label) (in_moves x ys)
+in_moves x (y ∷ ys) = by (same_point y.point x.point) (state_left y.state x.state) (in_moves x ys)
   where
-    point : Label → Point
-    point l = record { pair = y.pair; label = l }
+    point_state : AbstractState → PointState
+    point_state l = record { point = y.point; state = l }
 
-    by : (c : Bool) → (join_label y.label x.label ≡ y.label) ⊎ (left_label (join_label y.label x.label) < left_label y.label) → Moves ys (join_in x ys) →
-        Moves (y ∷ ys) (cond c (record { pair = y.pair; label = join_label y.label x.label } ∷ ys) (y ∷ join_in x ys))
-    by true (inl e) m = inr (refl, inl (ap (λ l. point l ∷ ys) e))
+    by : (c : Bool) → (join_states y.state x.state ≡ y.state) ⊎ (left_of_state (join_states y.state x.state) < left_of_state y.state) → Moves ys (join_in x ys) →
+        Moves (y ∷ ys) (cond c (record { point = y.point; state = join_states y.state x.state } ∷ ys) (y ∷ join_in x ys))
+    by true (inl e) m = inr (refl, inl (ap (λ l. point_state l ∷ ys) e))
     by true (inr h) m = inr (refl, inr (omega (arith, h)))
     by false r (inl h) = inl (omega (arith, h))
     by false r (inr (e, inl f)) = inr (ap suc e, inl (ap (λ zs. y ∷ zs) f))
     by false r (inr (e, inr h)) = inr (ap suc e, inr (omega (arith, h)))
 
-all_moves : (xs ys : List Point) → Moves ys (join_all xs ys)
+all_moves : (xs ys : List PointState) → Moves ys (join_all xs ys)
 all_moves [] ys = inr (refl, inl refl)
 all_moves (x ∷ xs) ys = moves_then ys (join_in x ys) (join_all xs (join_in x ys)) (in_moves x ys) (all_moves xs (join_in x ys))
 
-moves_longer : (xs ys : List Point) → Moves xs ys → length xs ≤ length ys
+moves_longer : (xs ys : List PointState) → Moves xs ys → length xs ≤ length ys
 moves_longer xs ys (inl h) = omega (arith, h)
 moves_longer xs ys (inr (e, r)) = omega (arith, e)
 
-pub all_longer : (xs ys : List Point) → length ys ≤ length (join_all xs ys)
+pub all_longer : (xs ys : List PointState) → length ys ≤ length (join_all xs ys)
 all_longer xs ys = moves_longer ys (join_all xs ys) (all_moves xs ys)
 
--- ---- rounds end
+-- ---- iterations end
 
-module _ (step : Point → FlowStep) (start : Point) (most : ℕ) where
-  abbrev after : ℕ → List Point
-  after n = rounds step start n
+module _ (step : PointState → FlowStep) (start : PointState) (most : ℕ) where
+  abbrev after : ℕ → List PointState
+  after n = iterations step start n
 
-  -- with more pairs than this, or with a round that changes nothing
+  -- with more points than this, or with an iteration that changes nothing
   abbrev Ended : Type 0
-  Ended = ((n : ℕ) × (most < length (after n))) ⊎ ((n : ℕ) × (round step (after n) ≡ after n) × (length (after n) ≤ most))
+  Ended = ((n : ℕ) × (most < length (after n))) ⊎ ((n : ℕ) × (iteration step (after n) ≡ after n) × (length (after n) ≤ most))
 
-  stay : (n : ℕ) → round step (after n) ≡ after n → (most < length (after n)) ⊎ (length (after n) ≤ most) → Ended
+  stay : (n : ℕ) → iteration step (after n) ≡ after n → (most < length (after n)) ⊎ (length (after n) ≤ most) → Ended
   stay n e (inl h) = inl (n, h)
   stay n e (inr h) = inr (n, e, h)
 
-  turn : (d n : ℕ) → ((k : ℕ) → most < d + length (after k) → Ended) → (length (round step (after n)) ≡ length (after n) → left_of (round step (after n)) < left_of (after n) → Ended)
-      → most < suc d + length (after n) → Moves (after n) (round step (after n)) → Ended
+  turn : (d n : ℕ) → ((k : ℕ) → most < d + length (after k) → Ended) → (length (iteration step (after n)) ≡ length (after n) → left_of (iteration step (after n)) < left_of (after n) → Ended)
+      → most < suc d + length (after n) → Moves (after n) (iteration step (after n)) → Ended
   turn d n more next h (inl l) = more (suc n) (omega (arith, h, l))
   turn d n more next h (inr (e, inl f)) = stay n f (cases_lt most (length (after n)))
   turn d n more next h (inr (e, inr l)) = next e l
@@ -194,16 +194,16 @@ least x (y ∷ ys) = by (least y ys)
 
 -- ---- verdicts
 
-module _ (step : Point → FlowStep) (start : Point) (begin : ℕ) where
-  by_violations : (xs : List Point) → IsLabelling step start xs → length xs ≤ most_pairs → (rs : List RuleViolation) → all_violations step xs ≡ rs → (v : Verdict) × Decided step start begin v
+module _ (step : PointState → FlowStep) (start : PointState) (begin : ℕ) where
+  by_violations : (xs : List PointState) → IsLabelling step start xs → length xs ≤ most_points → (rs : List RuleViolation) → all_violations step xs ≡ rs → (v : Verdict) × Decided step start begin v
   by_violations xs l few [] e = (Yes, (xs, l, few, e))
   by_violations xs l few (r ∷ rs) e =
       let first = least r rs in
       (No first.0.addr first.0.why first.0.value, inl (xs, l, few, subst (AmongThem first.0) (sym e) first.1, subst (BeforeAll first.0) (sym e) first.2))
 
-  by_end : Ended step start most_pairs → (v : Verdict) × Decided step start begin v
+  by_end : Ended step start most_points → (v : Verdict) × Decided step start begin v
   by_end (inl (n, h)) = (No begin TooMany 0, inr (n, h, refl))
-  by_end (inr (n, e, h)) = by_violations (rounds step start n) (record { rounds_to = n; is = refl; stays = e }) h (all_violations step (rounds step start n)) refl
+  by_end (inr (n, e, h)) = by_violations (iterations step start n) (record { iterations_to = n; is = refl; stays = e }) h (all_violations step (iterations step start n)) refl
 
   pub some_verdict : (v : Verdict) × Decided step start begin v
-  some_verdict = by_end (ended step start most_pairs)
+  some_verdict = by_end (ended step start most_points)

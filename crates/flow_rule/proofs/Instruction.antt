@@ -27,11 +27,11 @@ use Rattle.flow_rule.specs.declared.Val.{Val}
 use Rattle.flow_rule.specs.declared.Val.TheVariants.{Known, Away, Public, Secret}
 use Rattle.flow_rule.specs.Values.{is_secret, set_each, val, put_val}
 use Rattle.flow_rule.specs.declared.Reason.TheVariants.{SecretBranch}
-use Rattle.flow_rule.specs.Rounds.{Point, FlowStep}
+use Rattle.flow_rule.specs.Iterations.{PointState, FlowStep}
 use Rattle.flow_rule.specs.Does.{plan_val, does_val, past_val, read_val, writes_val, read_reaches, write_reaches}
 use Rattle.flow_rule.specs.Violations.{violation_if, reach_violations, exit_violations, word_violations}
 use Rattle.flow_rule.specs.Going.{exit_step, goes_by, goes, both, also}
-use Rattle.flow_rule.specs.Returns.{return_turn}
+use Rattle.flow_rule.specs.CallStrings.{return_turn}
 use Rattle.flow_rule.specs.Steps.{step_plain, step_jump, step_unit, step_insn, step_of}
 use Rattle.flow_rule.proofs.Goes.{goes_in, goes_unless}
 use Rattle.flow_rule.specs.Laws.{AgreeOn}
@@ -51,14 +51,14 @@ pub always_jumps : (c : Condition) (sr : ℕ) → is_always c ≡ true → jumps
 always_jumps Always sr e = refl
 always_jumps _ sr e = absurd cc
 
-pub record AgreeAt (m : Module) (x : Point) (ca da cb db : List ℕ) : Type 0 where
-  pub pc_a : reg ca 0 ≡ x.pair.addr
-  pub pc_b : reg cb 0 ≡ x.pair.addr
-  pub core : AgreeCore m.text x.label.core ca cb
-  pub words : AgreeData m x.label.words da db
-  pub in_text : holds m.text x.pair.addr ≡ true
+pub record AgreeAt (m : Module) (x : PointState) (ca da cb db : List ℕ) : Type 0 where
+  pub pc_a : reg ca 0 ≡ x.point.addr
+  pub pc_b : reg cb 0 ≡ x.point.addr
+  pub core : AgreeCore m.text x.state.core ca cb
+  pub words : AgreeData m x.state.words da db
+  pub in_text : holds m.text x.point.addr ≡ true
 
-pub weaken_at : (m : Module) (x y : Point) (ca da cb db : List ℕ) → Under x y → AgreeAt m x ca da cb db → AgreeAt m y ca da cb db
+pub weaken_at : (m : Module) (x y : PointState) (ca da cb db : List ℕ) → Under x y → AgreeAt m x ca da cb db → AgreeAt m y ca da cb db
 weaken_at m x y ca da cb db u h =
     record {
       pc_a = h.pc_a ∙ sym u.addr;
@@ -86,18 +86,18 @@ RegularInsn (One op w a) = Regular a × (0 < cycles_of (One op w a))
 RegularInsn _ = Unit {0}
 
 -- where an instruction leads
-pub data Landing (terms : Terms) (m : Module) (gives : List Point) (ca da cb db : List ℕ) : Type 0 where
-  In : (y : Point) (among : Among y gives) (at : AgreeAt m y ca da cb db) → Landing terms m gives ca da cb db
+pub data Landing (terms : Terms) (m : Module) (gives : List PointState) (ca da cb db : List ℕ) : Type 0 where
+  In : (y : PointState) (among : Among y gives) (at : AgreeAt m y ca da cb db) → Landing terms m gives ca da cb db
   Out : (same : blank terms.answers ca ≡ blank terms.answers cb) (out_a : holds m.text (reg ca 0) ≡ false) (out_b : holds m.text (reg cb 0) ≡ false) (ok_a : IsData m da) (ok_b : IsData m db) (agree : AgreeOn m terms.public da db) →
       Landing terms m gives ca da cb db
 
 -- the one way of an instruction that is no branch
-pub data Single (terms : Terms) (m : Module) (gives : List Point) (ca da cb db : List ℕ) : Type 0 where
-  Here : (y : Point) (one : gives ≡ y ∷ []) (at : AgreeAt m y ca da cb db) → Single terms m gives ca da cb db
+pub data Single (terms : Terms) (m : Module) (gives : List PointState) (ca da cb db : List ℕ) : Type 0 where
+  Here : (y : PointState) (one : gives ≡ y ∷ []) (at : AgreeAt m y ca da cb db) → Single terms m gives ca da cb db
   Gone : (nothing : gives ≡ []) (same : blank terms.answers ca ≡ blank terms.answers cb) (out_a : holds m.text (reg ca 0) ≡ false) (out_b : holds m.text (reg cb 0) ≡ false) (ok_a : IsData m da) (ok_b : IsData m db)
       (agree : AgreeOn m terms.public da db) → Single terms m gives ca da cb db
 
-pub landing_of : (terms : Terms) (m : Module) (gives : List Point) (ca da cb db : List ℕ) → Single terms m gives ca da cb db → Landing terms m gives ca da cb db
+pub landing_of : (terms : Terms) (m : Module) (gives : List PointState) (ca da cb db : List ℕ) → Single terms m gives ca da cb db → Landing terms m gives ca da cb db
 landing_of terms m gives ca da cb db (Here y one at) = In y (subst (λ g. Among y g) (sym one) (inl refl)) at
 landing_of terms m gives ca da cb db (Gone nothing same out_a out_b p q agree) = Out same out_a out_b p q agree
 
@@ -109,35 +109,35 @@ module _ (terms : Terms) (m : Module) where
       let rs = exit_violations 16 0 pc (set_each terms.answers Public v) in
       Gone refl (same_but m.text terms.answers pc v ca cb h (none_right ws rs e)) out_a out_b d.is_a d.is_b (agrees_on m terms.public pc words da db d (none_left ws rs e))
 
-  lands_in : (t : Bool) (to pc : ℕ) (returns : List ℕ) (v words : List Val) (ca da cb db : List ℕ) → AgreeCore m.text v ca cb → AgreeData m words da db → reg ca 0 ≡ to → reg cb 0 ≡ to → holds m.text to ≡ t →
-      (goes_in terms t m to pc returns v words).violations ≡ [] → Single terms m (goes_in terms t m to pc returns v words).gives ca da cb db
-  lands_in true to pc returns v words ca da cb db h d ea eb t e =
-      Here (record { pair = record { addr = to; returns = returns }; label = record { core = v; words = words } }) refl
+  lands_in : (t : Bool) (to pc : ℕ) (call_string : List ℕ) (v words : List Val) (ca da cb db : List ℕ) → AgreeCore m.text v ca cb → AgreeData m words da db → reg ca 0 ≡ to → reg cb 0 ≡ to → holds m.text to ≡ t →
+      (goes_in terms t m to pc call_string v words).violations ≡ [] → Single terms m (goes_in terms t m to pc call_string v words).gives ca da cb db
+  lands_in true to pc call_string v words ca da cb db h d ea eb t e =
+      Here (record { point = record { addr = to; call_string = call_string }; state = record { core = v; words = words } }) refl
       (record { pc_a = ea; pc_b = eb; core = h; words = d; in_text = t })
-  lands_in false to pc returns v words ca da cb db h d ea eb t e =
+  lands_in false to pc call_string v words ca da cb db h d ea eb t e =
       gone pc v words ca da cb db h d e (ap (λ a. holds m.text a) ea ∙ t) (ap (λ a. holds m.text a) eb ∙ t)
 
-  lands_by : (p : Val) (pc : ℕ) (returns : List ℕ) (v words : List Val) (ca da cb db : List ℕ) → AgreeCore m.text v ca cb → AgreeData m words da db → Agrees m.text p (reg ca 0) (reg cb 0) →
-      (goes_by terms p m pc returns v words).violations ≡ [] → Single terms m (goes_by terms p m pc returns v words).gives ca da cb db
-  lands_by (Known to) pc returns v words ca da cb db h d g e = lands_in (holds m.text to) to pc returns v words ca da cb db h d g.0 g.1 refl e
-  lands_by Away pc returns v words ca da cb db h d g e = gone pc v words ca da cb db h d e g.2 (ap (λ a. holds m.text a) (sym g.0) ∙ g.2)
-  lands_by Public pc returns v words ca da cb db h d g e = absurd cc
-  lands_by Secret pc returns v words ca da cb db h d g e = absurd cc
+  lands_by : (p : Val) (pc : ℕ) (call_string : List ℕ) (v words : List Val) (ca da cb db : List ℕ) → AgreeCore m.text v ca cb → AgreeData m words da db → Agrees m.text p (reg ca 0) (reg cb 0) →
+      (goes_by terms p m pc call_string v words).violations ≡ [] → Single terms m (goes_by terms p m pc call_string v words).gives ca da cb db
+  lands_by (Known to) pc call_string v words ca da cb db h d g e = lands_in (holds m.text to) to pc call_string v words ca da cb db h d g.0 g.1 refl e
+  lands_by Away pc call_string v words ca da cb db h d g e = gone pc v words ca da cb db h d e g.2 (ap (λ a. holds m.text a) (sym g.0) ∙ g.2)
+  lands_by Public pc call_string v words ca da cb db h d g e = absurd cc
+  lands_by Secret pc call_string v words ca da cb db h d g e = absurd cc
 
-  pub lands : (pc : ℕ) (returns : List ℕ) (v words : List Val) (ca da cb db : List ℕ) → AgreeCore m.text v ca cb → AgreeData m words da db →
-      (goes terms m pc returns v words).violations ≡ [] → Single terms m (goes terms m pc returns v words).gives ca da cb db
-  lands pc returns v words ca da cb db h d e = lands_by (val v 0) pc returns v words ca da cb db h d (h.at 0) e
+  pub lands : (pc : ℕ) (call_string : List ℕ) (v words : List Val) (ca da cb db : List ℕ) → AgreeCore m.text v ca cb → AgreeData m words da db →
+      (goes terms m pc call_string v words).violations ≡ [] → Single terms m (goes terms m pc call_string v words).gives ca da cb db
+  lands pc call_string v words ca da cb db h d e = lands_by (val v 0) pc call_string v words ca da cb db h d (h.at 0) e
 
-  lands_unless : (b : Bool) (pc : ℕ) (returns : List ℕ) (v words : List Val) (ca da cb db : List ℕ) → AgreeCore m.text v ca cb → AgreeData m words da db →
-      (goes_unless terms b m pc returns v words).violations ≡ [] → Single terms m (goes_unless terms b m pc returns v words).gives ca da cb db
-  lands_unless true pc returns v words ca da cb db h d e = absurd cc
-  lands_unless false pc returns v words ca da cb db h d e = lands pc returns v words ca da cb db h d e
+  lands_unless : (b : Bool) (pc : ℕ) (call_string : List ℕ) (v words : List Val) (ca da cb db : List ℕ) → AgreeCore m.text v ca cb → AgreeData m words da db →
+      (goes_unless terms b m pc call_string v words).violations ≡ [] → Single terms m (goes_unless terms b m pc call_string v words).gives ca da cb db
+  lands_unless true pc call_string v words ca da cb db h d e = absurd cc
+  lands_unless false pc call_string v words ca da cb db h d e = lands pc call_string v words ca da cb db h d e
 
-  land_left : (gs hs : List Point) (ca da cb db : List ℕ) → Landing terms m gs ca da cb db → Landing terms m (gs ++ hs) ca da cb db
+  land_left : (gs hs : List PointState) (ca da cb db : List ℕ) → Landing terms m gs ca da cb db → Landing terms m (gs ++ hs) ca da cb db
   land_left gs hs ca da cb db (In y among at) = In y (among_left y gs hs among) at
   land_left gs hs ca da cb db (Out same out_a out_b p q agree) = Out same out_a out_b p q agree
 
-  land_right : (gs hs : List Point) (ca da cb db : List ℕ) → Landing terms m hs ca da cb db → Landing terms m (gs ++ hs) ca da cb db
+  land_right : (gs hs : List PointState) (ca da cb db : List ℕ) → Landing terms m hs ca da cb db → Landing terms m (gs ++ hs) ca da cb db
   land_right gs hs ca da cb db (In y among at) = In y (among_right y gs hs among) at
   land_right gs hs ca da cb db (Out same out_a out_b p q agree) = Out same out_a out_b p q agree
 
@@ -212,7 +212,7 @@ module _ (terms : Terms) (key : List ℕ) (m : Module) (text : List ℕ) (caller
       (ap (λ w. insn_from (insn_of w 0 0) (text_byte m.text text) m.text (reg c 0)) (word_text key m text caller shape d (reg c 0) ev t) ∙ e)) ∙ may_it c d insn al ins)
 
   -- ---- from an instruction to a crossing
-  crossing : (gives : List Point) (ca da cb db ca' da' cb' db' : List ℕ) (insn : Insn) (r : ℕ) → doing j (at_rest ca da) ≡ Does insn → doing j (at_rest cb db) ≡ Does insn →
+  crossing : (gives : List PointState) (ca da cb db ca' da' cb' db' : List ℕ) (insn : Insn) (r : ℕ) → doing j (at_rest ca da) ≡ Does insn → doing j (at_rest cb db) ≡ Does insn →
       lone_does j insn (at_rest ca da) ≡ after ca' da' r false → lone_does j insn (at_rest cb db) ≡ after cb' db' r false → Landing terms m gives ca' da' cb' db' → Crossing terms m j (AgreeAt m) gives (at_rest ca da) (at_rest cb db)
   crossing gives ca da cb db ca' da' cb' db' insn r ea eb fa fb l =
       record {
@@ -248,7 +248,7 @@ module _ (terms : Terms) (key : List ℕ) (m : Module) (text : List ℕ) (caller
       of ys e = record { core = e.core; data_bytes = lone_writes m d (writes_of ys) e.stored; rest = e.cycles - 1; closing = e.closing }
 
   -- one instruction of both, in parts
-  pub record Parts (insn : Insn) (gives : List Point) (ca da cb db : List ℕ) : Type 0 where
+  pub record Parts (insn : Insn) (gives : List PointState) (ca da cb db : List ℕ) : Type 0 where
     pub values_a : List ℕ
     pub values_b : List ℕ
     pub left_a : List ℕ
@@ -261,28 +261,28 @@ module _ (terms : Terms) (key : List ℕ) (m : Module) (text : List ℕ) (caller
     pub so_b : lone_does j insn (at_rest cb db) ≡ after (confined true cb (does_freely insn cb values_b).core) left_b rest false
     pub landing : Single terms m gives (confined true ca (does_freely insn ca values_a).core) left_a (confined true cb (does_freely insn cb values_b).core) left_b
 
-  pub plain_parts : (insn : Insn) → Does_alike insn → (x : Point) (ca da cb db : List ℕ) → AgreeAt m x ca da cb db → met m.text text x.pair.addr ≡ Some insn → (step_plain terms m text insn x).violations ≡ [] →
+  pub plain_parts : (insn : Insn) → Does_alike insn → (x : PointState) (ca da cb db : List ℕ) → AgreeAt m x ca da cb db → met m.text text x.point.addr ≡ Some insn → (step_plain terms m text insn x).violations ≡ [] →
       Parts insn (step_plain terms m text insn x).gives ca da cb db
   plain_parts insn h x ca da cb db at e none =
-      let pc = x.pair.addr in
-      let v = x.label.core in
+      let pc = x.point.addr in
+      let v = x.state.core in
       let rs = plan_val insn pc v in
-      let vs = map (read_val m text x.label.words) (read_reaches rs) in
+      let vs = map (read_val m text x.state.words) (read_reaches rs) in
       let dv = does_val insn pc v vs in
-      let t = return_turn insn pc x.pair.returns vs in
-      let g = goes_unless terms t.stops m pc t.returns dv.core (writes_val m x.label.words (write_reaches rs) dv.stored) in
+      let t = return_turn insn pc x.point.call_string vs in
+      let g = goes_unless terms t.stops m pc t.call_string dv.core (writes_val m x.state.words (write_reaches rs) dv.stored) in
       let n1 = none_left (reach_violations m pc rs ++ t.violations) g.violations none in
       let n2 = none_right (reach_violations m pc rs ++ t.violations) g.violations none in
       let n3 = none_left (reach_violations m pc rs) t.violations n1 in
       let f = fixed m pc rs (plan insn ca) (plan insn cb) (h.reached pc v ca cb at.pc_a at.pc_b at.core) n3 in
       let xs = plan insn ca in
       let ins = inside m pc j refl rs xs f.0 in
-      let reads = reads_agree key m text caller shape x.label.words da db rs xs at.words f.0 in
+      let reads = reads_agree key m text caller shape x.state.words da db rs xs at.words f.0 in
       let va = map (lone_read j da) (reads_of xs) in
       let vb = map (lone_read j db) (reads_of xs) in
       let d = h.done pc v ca cb vs va vb at.pc_a at.pc_b at.core reads in
       let core = confined_agrees m.text even dv.core ca cb (does_freely insn ca va).core (does_freely insn cb vb).core at.core.mode_same d.ends in
-      let words = writes_agree m shape x.label.words da db rs xs dv.stored (does_freely insn ca va).stored (does_freely insn cb vb).stored at.words f.0 d.stored in
+      let words = writes_agree m shape x.state.words da db rs xs dv.stored (does_freely insn ca va).stored (does_freely insn cb vb).stored at.words f.0 d.stored in
       let ev_a = at.core.even_pc in
       let ev_b : reg cb 0 % 2 ≡ 0 = ap (λ i. i % 2) (at.pc_b ∙ sym at.pc_a) ∙ ev_a in
       record {
@@ -296,26 +296,26 @@ module _ (terms : Terms) (key : List ℕ) (m : Module) (text : List ℕ) (caller
         doing_b = fetched cb db insn ev_b (ap (λ a. holds m.text a) at.pc_b ∙ at.in_text) (ap (λ a. met m.text text a) at.pc_b ∙ e) h.alone (ap (all_inside j) (h.asks_is cb ∙ f.1) ∙ ins);
         so_a = does_so insn h ca da xs refl;
         so_b = does_so insn h cb db xs f.1;
-        landing = lands_unless terms m t.stops pc t.returns dv.core (writes_val m x.label.words (write_reaches rs) dv.stored) _ _ _ _ core words n2;
+        landing = lands_unless terms m t.stops pc t.call_string dv.core (writes_val m x.state.words (write_reaches rs) dv.stored) _ _ _ _ core words n2;
       }
 
   -- the words of the data that it does not write
-  pub plain_kept : (insn : Insn) (h : Does_alike insn) (x : Point) (ca da cb db : List ℕ) (at : AgreeAt m x ca da cb db) (e : met m.text text x.pair.addr ≡ Some insn) (none : (step_plain terms m text insn x).violations ≡ []) →
-      (i : ℕ) → NotIn i (written_words m (write_reaches (plan_val insn x.pair.addr x.label.core))) → word (plain_parts insn h x ca da cb db at e none).left_a i ≡ word da i
+  pub plain_kept : (insn : Insn) (h : Does_alike insn) (x : PointState) (ca da cb db : List ℕ) (at : AgreeAt m x ca da cb db) (e : met m.text text x.point.addr ≡ Some insn) (none : (step_plain terms m text insn x).violations ≡ []) →
+      (i : ℕ) → NotIn i (written_words m (write_reaches (plan_val insn x.point.addr x.state.core))) → word (plain_parts insn h x ca da cb db at e none).left_a i ≡ word da i
   unfolding plain_parts
   plain_kept insn h x ca da cb db at e none i k =
-      let pc = x.pair.addr in
-      let v = x.label.core in
+      let pc = x.point.addr in
+      let v = x.state.core in
       let rs = plan_val insn pc v in
-      let vs = map (read_val m text x.label.words) (read_reaches rs) in
+      let vs = map (read_val m text x.state.words) (read_reaches rs) in
       let dv = does_val insn pc v vs in
-      let t = return_turn insn pc x.pair.returns vs in
-      let g = goes_unless terms t.stops m pc t.returns dv.core (writes_val m x.label.words (write_reaches rs) dv.stored) in
+      let t = return_turn insn pc x.point.call_string vs in
+      let g = goes_unless terms t.stops m pc t.call_string dv.core (writes_val m x.state.words (write_reaches rs) dv.stored) in
       let n3 = none_left (reach_violations m pc rs) t.violations (none_left (reach_violations m pc rs ++ t.violations) g.violations none) in
       let f = fixed m pc rs (plan insn ca) (plan insn cb) (h.reached pc v ca cb at.pc_a at.pc_b at.core) n3 in
       writes_keep m shape da rs (plan insn ca) (does_freely insn ca (map (lone_read j da) (reads_of (plan insn ca)))).stored i f.0 k
 
-  plain_crossing : (insn : Insn) → Does_alike insn → (x : Point) (ca da cb db : List ℕ) → AgreeAt m x ca da cb db → met m.text text x.pair.addr ≡ Some insn → (step_plain terms m text insn x).violations ≡ [] →
+  plain_crossing : (insn : Insn) → Does_alike insn → (x : PointState) (ca da cb db : List ℕ) → AgreeAt m x ca da cb db → met m.text text x.point.addr ≡ Some insn → (step_plain terms m text insn x).violations ≡ [] →
       Crossing terms m j (AgreeAt m) (step_plain terms m text insn x).gives (at_rest ca da) (at_rest cb db)
   plain_crossing insn h x ca da cb db at e none =
       let p = plain_parts insn h x ca da cb db at e none in
@@ -361,12 +361,12 @@ module _ (terms : Terms) (key : List ℕ) (m : Module) (text : List ℕ) (caller
       even_kept : kept 0 (add16 pc (2 * 1)) ≡ add16 pc 2
       even_kept = omega arith
 
-  module _ (cn : Condition) (off : ℤ) (x : Point) (ca da cb db : List ℕ) (at : AgreeAt m x ca da cb db) (met_it : met m.text text x.pair.addr ≡ Some (Jump cn off)) where
+  module _ (cn : Condition) (off : ℤ) (x : PointState) (ca da cb db : List ℕ) (at : AgreeAt m x ca da cb db) (met_it : met m.text text x.point.addr ≡ Some (Jump cn off)) where
     abbrev pub insn : Insn
     insn = Jump cn off
 
     abbrev pub pc : ℕ
-    pc = x.pair.addr
+    pc = x.point.addr
 
     abbrev pub taken_of : List ℕ → List ℕ
     taken_of c = put (past insn c) 0 (add16 (reg (past insn c) 0) (distance off))
@@ -375,27 +375,27 @@ module _ (terms : Terms) (key : List ℕ) (m : Module) (text : List ℕ) (caller
     way t c = confined true c (cond t (taken_of c) (past insn c))
 
     abbrev pub way_val : Bool → List Val
-    way_val t = cond t (put_val (past_val insn pc x.label.core) 0 (Known (add16 (add16 pc 2) (distance off)))) (past_val insn pc x.label.core)
+    way_val t = cond t (put_val (past_val insn pc x.state.core) 0 (Known (add16 (add16 pc 2) (distance off)))) (past_val insn pc x.state.core)
 
     even_here : pc % 2 ≡ 0
     even_here = ap (λ i. i % 2) (sym at.pc_a) ∙ at.core.even_pc
 
     pub way_agrees : (t : Bool) → AgreeCore m.text (way_val t) (way t ca) (way t cb)
     way_agrees true =
-        let h1 = past_agrees m.text even insn pc x.label.core ca cb at.pc_a at.pc_b at.core in
+        let h1 = past_agrees m.text even insn pc x.state.core ca cb at.pc_a at.pc_b at.core in
         let ea = past_pc insn pc ca refl at.pc_a even_here at.core.long_a in
         let eb = past_pc insn pc cb refl at.pc_b even_here at.core.long_b in
-        let h2 = put_agrees m.text even (past_val insn pc x.label.core) (past insn ca) (past insn cb) 0 (Known (add16 (add16 pc 2) (distance off))) _ _ (λ e. absurd (omega arith)) h1
+        let h2 = put_agrees m.text even (past_val insn pc x.state.core) (past insn ca) (past insn cb) 0 (Known (add16 (add16 pc 2) (distance off))) _ _ (λ e. absurd (omega arith)) h1
         (ap (λ i. add16 i (distance off)) ea, ap (λ i. add16 i (distance off)) eb) in
         confined_agrees m.text even _ ca cb (taken_of ca) (taken_of cb) at.core.mode_same
         (ends_so m.text even _ _ _ _ _ h2 (put_other_reg (past insn ca) 0 _ 2 (λ e. absurd (omega arith)) ∙ put_other_reg ca 0 _ 2 (λ e. absurd (omega arith)))
         (put_other_reg (past insn cb) 0 _ 2 (λ e. absurd (omega arith)) ∙ put_other_reg cb 0 _ 2 (λ e. absurd (omega arith))))
     way_agrees false =
-        let h1 = past_agrees m.text even insn pc x.label.core ca cb at.pc_a at.pc_b at.core in
+        let h1 = past_agrees m.text even insn pc x.state.core ca cb at.pc_a at.pc_b at.core in
         confined_agrees m.text even _ ca cb (past insn ca) (past insn cb) at.core.mode_same
         (ends_so m.text even _ _ _ _ _ h1 (put_other_reg ca 0 _ 2 (λ e. absurd (omega arith))) (put_other_reg cb 0 _ 2 (λ e. absurd (omega arith))))
 
-    pub way_crossing : (t : Bool) (gives : List Point) → jumps cn (reg ca 2) ≡ t → jumps cn (reg cb 2) ≡ t → Landing terms m gives (way t ca) da (way t cb) db → Crossing terms m j (AgreeAt m) gives (at_rest ca da) (at_rest cb db)
+    pub way_crossing : (t : Bool) (gives : List PointState) → jumps cn (reg ca 2) ≡ t → jumps cn (reg cb 2) ≡ t → Landing terms m gives (way t ca) da (way t cb) db → Crossing terms m j (AgreeAt m) gives (at_rest ca da) (at_rest cb db)
     unfolding asks plan
     way_crossing t gives ea eb l =
         let ev_b : reg cb 0 % 2 ≡ 0 = ap (λ i. i % 2) (at.pc_b ∙ sym at.pc_a) ∙ at.core.even_pc in
@@ -405,10 +405,10 @@ module _ (terms : Terms) (key : List ℕ) (m : Module) (text : List ℕ) (caller
         (jump_so cn off ca da ∙ ap (λ t. after (way t ca) da 1 false) ea) (jump_so cn off cb db ∙ ap (λ t. after (way t cb) db 1 false) eb) l
 
     abbrev pub way_goes : Bool → FlowStep
-    way_goes t = goes terms m pc x.pair.returns (way_val t) x.label.words
+    way_goes t = goes terms m pc x.point.call_string (way_val t) x.state.words
 
     pub way_single : (t : Bool) → (way_goes t).violations ≡ [] → Single terms m (way_goes t).gives (way t ca) da (way t cb) db
-    way_single t e = lands terms m pc x.pair.returns (way_val t) x.label.words (way t ca) da (way t cb) db (way_agrees t) at.words e
+    way_single t e = lands terms m pc x.point.call_string (way_val t) x.state.words (way t ca) da (way t cb) db (way_agrees t) at.words e
 
     way_lands : (t : Bool) → (way_goes t).violations ≡ [] →
         Landing terms m (way_goes t).gives (way t ca) da (way t cb) db
@@ -419,16 +419,16 @@ module _ (terms : Terms) (key : List ℕ) (m : Module) (text : List ℕ) (caller
     jump_crossing none = by (is_always cn) refl none
       where
         abbrev_either : FlowStep
-        abbrev_either = also (violation_if (is_secret (val x.label.core 2)) pc SecretBranch 0) (both (way_goes true) (way_goes false))
+        abbrev_either = also (violation_if (is_secret (val x.state.core 2)) pc SecretBranch 0) (both (way_goes true) (way_goes false))
 
-        by : (c : Bool) → is_always cn ≡ c → (cond c (way_goes true) (also (violation_if (is_secret (val x.label.core 2)) pc SecretBranch 0) (both (way_goes true) (way_goes false)))).violations ≡ [] →
-            Crossing terms m j (AgreeAt m) (cond c (way_goes true) (also (violation_if (is_secret (val x.label.core 2)) pc SecretBranch 0) (both (way_goes true) (way_goes false)))).gives (at_rest ca da) (at_rest cb db)
+        by : (c : Bool) → is_always cn ≡ c → (cond c (way_goes true) (also (violation_if (is_secret (val x.state.core 2)) pc SecretBranch 0) (both (way_goes true) (way_goes false)))).violations ≡ [] →
+            Crossing terms m j (AgreeAt m) (cond c (way_goes true) (also (violation_if (is_secret (val x.state.core 2)) pc SecretBranch 0) (both (way_goes true) (way_goes false)))).gives (at_rest ca da) (at_rest cb db)
         by true e none =
             way_crossing true (way_goes true).gives (always_jumps cn (reg ca 2) e) (always_jumps cn (reg cb 2) e) (way_lands true none)
         by false e none =
-            let n1 = none_left (violation_if (is_secret (val x.label.core 2)) pc SecretBranch 0) ((way_goes true).violations ++ (way_goes false).violations) none in
-            let n2 = none_right (violation_if (is_secret (val x.label.core 2)) pc SecretBranch 0) ((way_goes true).violations ++ (way_goes false).violations) none in
-            let sr : reg ca 2 ≡ reg cb 2 = same m.text (val x.label.core 2) (reg ca 2) (reg cb 2) (at.core.at 2) (none_if (is_secret (val x.label.core 2)) pc SecretBranch 0 n1) in
+            let n1 = none_left (violation_if (is_secret (val x.state.core 2)) pc SecretBranch 0) ((way_goes true).violations ++ (way_goes false).violations) none in
+            let n2 = none_right (violation_if (is_secret (val x.state.core 2)) pc SecretBranch 0) ((way_goes true).violations ++ (way_goes false).violations) none in
+            let sr : reg ca 2 ≡ reg cb 2 = same m.text (val x.state.core 2) (reg ca 2) (reg cb 2) (at.core.at 2) (none_if (is_secret (val x.state.core 2)) pc SecretBranch 0 n1) in
             turn (jumps cn (reg ca 2)) refl (ap (λ i. jumps cn i) (sym sr)) (none_left (way_goes true).violations (way_goes false).violations n2) (none_right (way_goes true).violations (way_goes false).violations n2)
           where
             turn : (t : Bool) → jumps cn (reg ca 2) ≡ t → jumps cn (reg cb 2) ≡ jumps cn (reg ca 2) → (way_goes true).violations ≡ [] → (way_goes false).violations ≡ [] →
@@ -447,7 +447,7 @@ module _ (terms : Terms) (key : List ℕ) (m : Module) (text : List ℕ) (caller
   unfolding lone_does asks effect unit_does
   unit_so n u c d e = ap (λ u. unit_does u c d) e
 
-  module _ (n : UnitName) (u : UnitName) (named : n ≡ u) (x : Point) (ca da cb db : List ℕ) (at : AgreeAt m x ca da cb db) (met_it : met m.text text x.pair.addr ≡ Some (UnitOp n)) (alone : is_alone (UnitOp n) ≡ true) where
+  module _ (n : UnitName) (u : UnitName) (named : n ≡ u) (x : PointState) (ca da cb db : List ℕ) (at : AgreeAt m x ca da cb db) (met_it : met m.text text x.point.addr ≡ Some (UnitOp n)) (alone : is_alone (UnitOp n) ≡ true) where
     even_b : reg cb 0 % 2 ≡ 0
     even_b = ap (λ i. i % 2) (at.pc_b ∙ sym at.pc_a) ∙ at.core.even_pc
 
@@ -461,18 +461,18 @@ module _ (terms : Terms) (key : List ℕ) (m : Module) (text : List ℕ) (caller
 
     tell_crossing : (value : ℕ) → unit_plan (lone_who j) u ca ≡ [] → unit_plan (lone_who j) u cb ≡ [] →
         unit_does u ca da ≡ after (put (past (UnitOp Unprotect) ca) 15 value) da 5 false → unit_does u cb db ≡ after (put (past (UnitOp Unprotect) cb) 15 value) db 5 false →
-        (goes terms m x.pair.addr x.pair.returns (put_val (past_val (UnitOp n) x.pair.addr x.label.core) 15 Public) x.label.words).violations ≡ [] →
-        Crossing terms m j (AgreeAt m) (goes terms m x.pair.addr x.pair.returns (put_val (past_val (UnitOp n) x.pair.addr x.label.core) 15 Public) x.label.words).gives (at_rest ca da) (at_rest cb db)
+        (goes terms m x.point.addr x.point.call_string (put_val (past_val (UnitOp n) x.point.addr x.state.core) 15 Public) x.state.words).violations ≡ [] →
+        Crossing terms m j (AgreeAt m) (goes terms m x.point.addr x.point.call_string (put_val (past_val (UnitOp n) x.point.addr x.state.core) 15 Public) x.state.words).gives (at_rest ca da) (at_rest cb db)
     tell_crossing value pa pb ea eb none =
-        let h1 = past_agrees m.text even (UnitOp n) x.pair.addr x.label.core ca cb at.pc_a at.pc_b at.core in
-        let h2 = put_agrees m.text even (past_val (UnitOp n) x.pair.addr x.label.core) (past (UnitOp n) ca) (past (UnitOp n) cb) 15 Public value value (λ e. absurd (omega arith)) h1 refl in
+        let h1 = past_agrees m.text even (UnitOp n) x.point.addr x.state.core ca cb at.pc_a at.pc_b at.core in
+        let h2 = put_agrees m.text even (past_val (UnitOp n) x.point.addr x.state.core) (past (UnitOp n) ca) (past (UnitOp n) cb) 15 Public value value (λ e. absurd (omega arith)) h1 refl in
         crossing _ ca da cb db (put (past (UnitOp Unprotect) ca) 15 value) da (put (past (UnitOp Unprotect) cb) 15 value) db (UnitOp n) 5
         (unit_fetched_a (ap (all_inside j) pa)) (unit_fetched_b (ap (all_inside j) pb)) (unit_so n u ca da named ∙ ea) (unit_so n u cb db named ∙ eb)
-        (landing_of terms m _ _ _ _ _ (lands terms m x.pair.addr x.pair.returns _ x.label.words _ da _ db h2 at.words none))
+        (landing_of terms m _ _ _ _ _ (lands terms m x.point.addr x.point.call_string _ x.state.words _ da _ db h2 at.words none))
 
     shut_crossing : (r : ℕ) → unit_plan (lone_who j) u ca ≡ [] → unit_plan (lone_who j) u cb ≡ [] →
         unit_does u ca da ≡ after (past (UnitOp Unprotect) ca) da r true → unit_does u cb db ≡ after (past (UnitOp Unprotect) cb) db r true →
-        exit_violations 16 0 x.pair.addr (set_each terms.answers Public x.label.core) ≡ [] → Crossing terms m j (AgreeAt m) [] (at_rest ca da) (at_rest cb db)
+        exit_violations 16 0 x.point.addr (set_each terms.answers Public x.state.core) ≡ [] → Crossing terms m j (AgreeAt m) [] (at_rest ca da) (at_rest cb db)
     unfolding doing
     shut_crossing r pa pb ea eb none =
         record {
@@ -485,15 +485,15 @@ module _ (terms : Terms) (key : List ℕ) (m : Module) (text : List ℕ) (caller
           ending = Shut (blanked terms.answers (past (UnitOp Unprotect) ca) (past (UnitOp Unprotect) cb) (length-set ca 0 _ ∙ at.core.long_a) (length-set cb 0 _ ∙ at.core.long_b) past_same) refl refl;
         }
       where
-        even_here : x.pair.addr % 2 ≡ 0
+        even_here : x.point.addr % 2 ≡ 0
         even_here = ap (λ i. i % 2) (sym at.pc_a) ∙ at.core.even_pc
 
         past_same : (k : ℕ) → k < 16 → on_list terms.answers k ≡ false → reg (past (UnitOp Unprotect) ca) k ≡ reg (past (UnitOp Unprotect) cb) k
-        past_same zero lt off = past_pc (UnitOp Unprotect) x.pair.addr ca refl at.pc_a even_here at.core.long_a ∙ sym (past_pc (UnitOp Unprotect) x.pair.addr cb refl at.pc_b even_here at.core.long_b)
+        past_same zero lt off = past_pc (UnitOp Unprotect) x.point.addr ca refl at.pc_a even_here at.core.long_a ∙ sym (past_pc (UnitOp Unprotect) x.point.addr cb refl at.pc_b even_here at.core.long_b)
         past_same (suc k) lt off =
-            put_other_reg ca 0 _ (suc k) (λ e. absurd (omega arith)) ∙ same_reg m.text terms.answers x.pair.addr x.label.core ca cb at.core none (suc k) lt off ∙ sym (put_other_reg cb 0 _ (suc k) (λ e. absurd (omega arith)))
+            put_other_reg ca 0 _ (suc k) (λ e. absurd (omega arith)) ∙ same_reg m.text terms.answers x.point.addr x.state.core ca cb at.core none (suc k) lt off ∙ sym (put_other_reg cb 0 _ (suc k) (λ e. absurd (omega arith)))
 
-  unit_crossing : (n : UnitName) (u : UnitName) → n ≡ u → (x : Point) (ca da cb db : List ℕ) → AgreeAt m x ca da cb db → met m.text text x.pair.addr ≡ Some (UnitOp n) → (step_unit terms m (UnitOp n) u x).violations ≡ [] →
+  unit_crossing : (n : UnitName) (u : UnitName) → n ≡ u → (x : PointState) (ca da cb db : List ℕ) → AgreeAt m x ca da cb db → met m.text text x.point.addr ≡ Some (UnitOp n) → (step_unit terms m (UnitOp n) u x).violations ≡ [] →
       Crossing terms m j (AgreeAt m) (step_unit terms m (UnitOp n) u x).gives (at_rest ca da) (at_rest cb db)
   unfolding unit_does unit_plan unit_effect
   unit_crossing n Unprotect e x ca da cb db at met_it none = shut_crossing n Unprotect e x ca da cb db at met_it (ap (λ u. is_alone (UnitOp u)) e) (6 + size_of m.ram / 2 - 1) refl refl refl refl none
@@ -502,14 +502,14 @@ module _ (terms : Terms) (key : List ℕ) (m : Module) (text : List ℕ) (caller
   unit_crossing n _ e x ca da cb db at met_it none = absurd cc
 
   -- ---- any instruction
-  pub step_crossing : ((pc : ℕ) (insn : Insn) → met m.text text pc ≡ Some insn → RegularInsn insn) → (x : Point) (ca da cb db : List ℕ) → AgreeAt m x ca da cb db → (step_of terms m text x).violations ≡ [] → Crossing terms m j (AgreeAt m) (step_of terms m text x).gives (at_rest ca da) (at_rest cb db)
+  pub step_crossing : ((pc : ℕ) (insn : Insn) → met m.text text pc ≡ Some insn → RegularInsn insn) → (x : PointState) (ca da cb db : List ℕ) → AgreeAt m x ca da cb db → (step_of terms m text x).violations ≡ [] → Crossing terms m j (AgreeAt m) (step_of terms m text x).gives (at_rest ca da) (at_rest cb db)
   unfolding step_of
-  step_crossing regular x ca da cb db at none = by (met m.text text x.pair.addr) refl none
+  step_crossing regular x ca da cb db at none = by (met m.text text x.point.addr) refl none
     where
-      by : (o : Option Insn) → met m.text text x.pair.addr ≡ o → (step_insn terms m text o x).violations ≡ [] → Crossing terms m j (AgreeAt m) (step_insn terms m text o x).gives (at_rest ca da) (at_rest cb db)
+      by : (o : Option Insn) → met m.text text x.point.addr ≡ o → (step_insn terms m text o x).violations ≡ [] → Crossing terms m j (AgreeAt m) (step_insn terms m text o x).gives (at_rest ca da) (at_rest cb db)
       by None e none = absurd cc
-      by (Some (Two op w s d)) e none = plain_crossing (Two op w s d) (two_alike op w s d (regular x.pair.addr (Two op w s d) e)) x ca da cb db at e none
-      by (Some (One op w a)) e none = plain_crossing (One op w a) (one_alike op w a (regular x.pair.addr (One op w a) e).0) x ca da cb db at e none
+      by (Some (Two op w s d)) e none = plain_crossing (Two op w s d) (two_alike op w s d (regular x.point.addr (Two op w s d) e)) x ca da cb db at e none
+      by (Some (One op w a)) e none = plain_crossing (One op w a) (one_alike op w a (regular x.point.addr (One op w a) e).0) x ca da cb db at e none
       by (Some (Jump c off)) e none = jump_crossing c off x ca da cb db at e none
       by (Some Reti) e none = absurd cc
       by (Some (UnitOp n)) e none = unit_crossing n n refl x ca da cb db at e none

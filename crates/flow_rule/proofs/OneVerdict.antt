@@ -4,66 +4,66 @@ use Rattle.flow_rule.specs.declared.Reason.{Reason}
 use Rattle.flow_rule.specs.declared.Reason.TheVariants as reason
 use Rattle.flow_rule.specs.declared.Verdict.{Verdict}
 use Rattle.flow_rule.specs.declared.Verdict.TheVariants.{Yes, No}
-use Rattle.flow_rule.specs.Rounds.{Point, RuleViolation, FlowStep, given_points, round, rounds, IsLabelling}
-use Rattle.flow_rule.specs.Rounds.{all_violations}
+use Rattle.flow_rule.specs.Iterations.{PointState, RuleViolation, FlowStep, given_points, iteration, iterations, IsLabelling}
+use Rattle.flow_rule.specs.Iterations.{all_violations}
 use Rattle.flow_rule.specs.Violations.{number_of, NotAfter, BeforeAll, AmongThem}
 use Rattle.flow_rule.specs.Verdict.{Decided}
 use Rattle.flow_rule.proofs.Ends.{all_longer}
 
--- Rounds never shorten
+-- Iterations never shorten
 
-module _ (step : Point → FlowStep) where
-  -- this many rounds from these points
-  abbrev more : ℕ → List Point → List Point
+module _ (step : PointState → FlowStep) where
+  -- this many iterations from these points
+  abbrev more : ℕ → List PointState → List PointState
   more zero xs = xs
-  more (suc n) xs = round step (more n xs)
+  more (suc n) xs = iteration step (more n xs)
 
-  shift : (n : ℕ) (xs : List Point) → more n (round step xs) ≡ round step (more n xs)
+  shift : (n : ℕ) (xs : List PointState) → more n (iteration step xs) ≡ iteration step (more n xs)
   shift zero xs = refl
-  shift (suc n) xs = ap (round step) (shift n xs)
+  shift (suc n) xs = ap (iteration step) (shift n xs)
 
-  still : (xs : List Point) → round step xs ≡ xs → (n : ℕ) → more n xs ≡ xs
+  still : (xs : List PointState) → iteration step xs ≡ xs → (n : ℕ) → more n xs ≡ xs
   still xs e zero = refl
-  still xs e (suc n) = ap (round step) (still xs e n) ∙ e
+  still xs e (suc n) = ap (iteration step) (still xs e n) ∙ e
 
-  longer : (n : ℕ) (xs : List Point) → length xs ≤ length (more n xs)
+  longer : (n : ℕ) (xs : List PointState) → length xs ≤ length (more n xs)
   longer zero xs = omega arith
   longer (suc n) xs = omega (arith, longer n xs, all_longer (given_points step (more n xs)) (more n xs))
 
-  abbrev Stays : List Point → Type 0
-  Stays xs = round step xs ≡ xs
+  abbrev Stays : List PointState → Type 0
+  Stays xs = iteration step xs ≡ xs
 
-  one_fixed : (n m : ℕ) (xs : List Point) → Stays (more n xs) → Stays (more m xs) → more n xs ≡ more m xs
+  one_fixed : (n m : ℕ) (xs : List PointState) → Stays (more n xs) → Stays (more m xs) → more n xs ≡ more m xs
   one_fixed zero m xs r s = sym (still xs r m)
   one_fixed (suc n) zero xs r s = still xs s (suc n)
   one_fixed (suc n) (suc m) xs r s =
-      sym (shift n xs) ∙ one_fixed n m (round step xs) (subst Stays (sym (shift n xs)) r) (subst Stays (sym (shift m xs)) s) ∙ shift m xs
+      sym (shift n xs) ∙ one_fixed n m (iteration step xs) (subst Stays (sym (shift n xs)) r) (subst Stays (sym (shift m xs)) s) ∙ shift m xs
 
-  -- no round is longer than one that stays
-  not_longer : (n m : ℕ) (xs : List Point) → Stays (more m xs) → length (more n xs) ≤ length (more m xs)
+  -- no iteration is longer than one that stays
+  not_longer : (n m : ℕ) (xs : List PointState) → Stays (more m xs) → length (more n xs) ≤ length (more m xs)
   not_longer zero m xs s = longer m xs
   not_longer (suc n) zero xs s = omega (arith, ap length (still xs s (suc n)))
   not_longer (suc n) (suc m) xs s =
-      let both : length (more n (round step xs)) ≤ length (more m (round step xs)) = not_longer n m (round step xs) (subst Stays (sym (shift m xs)) s) in
+      let both : length (more n (iteration step xs)) ≤ length (more m (iteration step xs)) = not_longer n m (iteration step xs) (subst Stays (sym (shift m xs)) s) in
       omega (arith, both, ap length (shift n xs), ap length (shift m xs))
 
-  as_more : (start : Point) (n : ℕ) → rounds step start n ≡ more n (start ∷ [])
+  as_more : (start : PointState) (n : ℕ) → iterations step start n ≡ more n (start ∷ [])
   as_more start zero = refl
-  as_more start (suc n) = ap (round step) (as_more start n)
+  as_more start (suc n) = ap (iteration step) (as_more start n)
 
-  module _ (start : Point) where
-    staying : (xs : List Point) (l : IsLabelling step start xs) → more l.rounds_to (start ∷ []) ≡ xs
-    staying xs l = sym (as_more start l.rounds_to) ∙ l.is
+  module _ (start : PointState) where
+    staying : (xs : List PointState) (l : IsLabelling step start xs) → more l.iterations_to (start ∷ []) ≡ xs
+    staying xs l = sym (as_more start l.iterations_to) ∙ l.is
 
-    one_labelling : (xs ys : List Point) → IsLabelling step start xs → IsLabelling step start ys → xs ≡ ys
+    one_labelling : (xs ys : List PointState) → IsLabelling step start xs → IsLabelling step start ys → xs ≡ ys
     one_labelling xs ys l k =
         sym (staying xs l)
-        ∙ one_fixed l.rounds_to k.rounds_to (start ∷ []) (subst Stays (sym (staying xs l)) l.stays) (subst Stays (sym (staying ys k)) k.stays)
+        ∙ one_fixed l.iterations_to k.iterations_to (start ∷ []) (subst Stays (sym (staying xs l)) l.stays) (subst Stays (sym (staying ys k)) k.stays)
         ∙ staying ys k
 
-    within : (xs : List Point) (n : ℕ) → IsLabelling step start xs → length (rounds step start n) ≤ length xs
+    within : (xs : List PointState) (n : ℕ) → IsLabelling step start xs → length (iterations step start n) ≤ length xs
     within xs n l =
-        let bound = not_longer n l.rounds_to (start ∷ []) (subst Stays (sym (staying xs l)) l.stays) in
+        let bound = not_longer n l.iterations_to (start ∷ []) (subst Stays (sym (staying xs l)) l.stays) in
         omega (arith, bound, ap length (as_more start n), ap length (staying xs l))
 
 -- The first violation
@@ -116,7 +116,7 @@ none_among r (x ∷ xs) e a = cc
 
 -- Verdicts
 
-module _ (step : Point → FlowStep) (start : Point) (begin : ℕ) where
+module _ (step : PointState → FlowStep) (start : PointState) (begin : ℕ) where
   pub one_verdict : (a b : Verdict) → Decided step start begin a → Decided step start begin b → a ≡ b
   one_verdict Yes Yes d e = refl
   one_verdict Yes (No addr why value) d (inl e) =

@@ -25,11 +25,11 @@ use Rattle.flow_rule.specs.declared.Val.{Val}
 use Rattle.flow_rule.specs.declared.Val.TheVariants.{Known}
 use Rattle.flow_rule.specs.Values.{val, put_val}
 use Rattle.flow_rule.specs.declared.Reason.TheVariants.{UnknownTarget}
-use Rattle.flow_rule.specs.Rounds.{Point}
+use Rattle.flow_rule.specs.Iterations.{PointState}
 use Rattle.flow_rule.specs.declared.Reach.{Reach}
 use Rattle.flow_rule.specs.Does.{writes_val, past_val, lowered_val}
 use Rattle.flow_rule.specs.Violations.{violation_if, reach_violations}
-use Rattle.flow_rule.specs.Returns.{calls, ReturnTurn}
+use Rattle.flow_rule.specs.CallStrings.{calls, ReturnTurn}
 use Rattle.flow_rule.specs.Steps.{step_of, step_insn, step_plain}
 use Rattle.flow_rule.specs.Stub.{text_word, entries_of, word_number, is_shut, is_open, shut_violations, shut_if, to_entries, step_entries, step_stub, call_entry}
 use Rattle.arm_balance.specs.Met.{text_byte, met}
@@ -48,13 +48,13 @@ abbrev pub IsOpen : ℕ → Type 0
 IsOpen k = (k ≡ 10) ⊎ ((k ≡ 12) ⊎ ((k ≡ 14) ⊎ (k ≡ 16)))
 
 -- on the words 10 to 17 the entry number is below n, and the same in both runs
-pub record AtStub (m : Module) (n : ℕ) (x : Point) (ca da cb db : List ℕ) : Type 0 where
+pub record AtStub (m : Module) (n : ℕ) (x : PointState) (ca da cb db : List ℕ) : Type 0 where
   pub agree : AgreeAt m x ca da cb db
-  pub open_ok : is_open (word_number m x.pair.addr) ≡ true → IsOpen (word_number m x.pair.addr) × (reg ca 6 < n) × (reg ca 6 ≡ reg cb 6)
-  pub entry_ok : word_number m x.pair.addr ≡ 17 → (i : ℕ) × (i < n) × (reg ca 6 ≡ 2 * i) × (reg cb 6 ≡ 2 * i)
-  pub low_ok : nat_le (word_number m x.pair.addr) 18 ≡ true → IsOpen (word_number m x.pair.addr) ⊎ (word_number m x.pair.addr ≡ 17)
+  pub open_ok : is_open (word_number m x.point.addr) ≡ true → IsOpen (word_number m x.point.addr) × (reg ca 6 < n) × (reg ca 6 ≡ reg cb 6)
+  pub entry_ok : word_number m x.point.addr ≡ 17 → (i : ℕ) × (i < n) × (reg ca 6 ≡ 2 * i) × (reg cb 6 ≡ 2 * i)
+  pub low_ok : nat_le (word_number m x.point.addr) 18 ≡ true → IsOpen (word_number m x.point.addr) ⊎ (word_number m x.point.addr ≡ 17)
 
-pub weaken_stub : (m : Module) (n : ℕ) (x y : Point) (ca da cb db : List ℕ) → Under x y → AtStub m n x ca da cb db → AtStub m n y ca da cb db
+pub weaken_stub : (m : Module) (n : ℕ) (x y : PointState) (ca da cb db : List ℕ) → Under x y → AtStub m n x ca da cb db → AtStub m n y ca da cb db
 weaken_stub m n x y ca da cb db u h =
     record {
       agree = weaken_at m x y ca da cb db u h.agree;
@@ -78,10 +78,10 @@ shut_entry k e f = let g : is_shut 17 ≡ false = subst (λ i. is_shut i ≡ fal
 shut_low : (k : ℕ) → is_shut k ≡ false → nat_le k 18 ≡ true → ⊥
 shut_low k e f = let g : (true || (k == 36) || (k == 37)) ≡ false = subst (λ b. (b || (k == 36) || (k == 37)) ≡ false) f e in absurd cc
 
-not_shut : (m : Module) (pc : ℕ) (gs : List Point) → shut_violations m pc gs ≡ [] → (y : Point) → Among y gs → is_shut (word_number m y.pair.addr) ≡ false
+not_shut : (m : Module) (pc : ℕ) (gs : List PointState) → shut_violations m pc gs ≡ [] → (y : PointState) → Among y gs → is_shut (word_number m y.point.addr) ≡ false
 not_shut m pc [] e y h = absurd h
-not_shut m pc (x ∷ gs) e y (inl f) = ap (λ y. is_shut (word_number m y.pair.addr)) f ∙ none_if (is_shut (word_number m x.pair.addr)) pc _ 0 (none_left (violation_if (is_shut (word_number m x.pair.addr)) pc UnknownTarget 0) (shut_violations m pc gs) e)
-not_shut m pc (x ∷ gs) e y (inr h) = not_shut m pc gs (none_right (violation_if (is_shut (word_number m x.pair.addr)) pc UnknownTarget 0) (shut_violations m pc gs) e) y h
+not_shut m pc (x ∷ gs) e y (inl f) = ap (λ y. is_shut (word_number m y.point.addr)) f ∙ none_if (is_shut (word_number m x.point.addr)) pc _ 0 (none_left (violation_if (is_shut (word_number m x.point.addr)) pc UnknownTarget 0) (shut_violations m pc gs) e)
+not_shut m pc (x ∷ gs) e y (inr h) = not_shut m pc gs (none_right (violation_if (is_shut (word_number m x.point.addr)) pc UnknownTarget 0) (shut_violations m pc gs) e) y h
 
 abbrev head_addr : List Access → ℕ
 head_addr [] = 0
@@ -126,19 +126,19 @@ module _ (terms : Terms) (key : List ℕ) (m : Module) (text : List ℕ) (caller
   word_at_place k = omega arith
 
   -- ---- the closed words are not met from outside
-  outside_crossing : (x : Point) (ca da cb db : List ℕ) → AtStub m n x ca da cb db → (shut_if false m x.pair.addr (step_of terms m text x)).violations ≡ [] →
+  outside_crossing : (x : PointState) (ca da cb db : List ℕ) → AtStub m n x ca da cb db → (shut_if false m x.point.addr (step_of terms m text x)).violations ≡ [] →
       Crossing terms m j (AtStub m n) (step_of terms m text x).gives (at_rest ca da) (at_rest cb db)
   outside_crossing x ca da cb db at none =
       let s = step_of terms m text x in
-      let n1 = none_right s.violations (shut_violations m x.pair.addr s.gives) none in
-      let n2 = none_left s.violations (shut_violations m x.pair.addr s.gives) none in
+      let n1 = none_right s.violations (shut_violations m x.point.addr s.gives) none in
+      let n2 = none_left s.violations (shut_violations m x.point.addr s.gives) none in
       let k = step_crossing terms key m text caller shape regular x ca da cb db at.agree n2 in
       record { cycles = k.cycles; some = k.some; to_a = k.to_a; to_b = k.to_b; pass_a = k.pass_a; pass_b = k.pass_b; ending = by k.to_a k.to_b n1 k.ending }
     where
-      by : (la lb : Lone) → shut_violations m x.pair.addr (step_of terms m text x).gives ≡ [] → Ending terms m j (AgreeAt m) (step_of terms m text x).gives la lb → Ending terms m j (AtStub m n) (step_of terms m text x).gives la lb
+      by : (la lb : Lone) → shut_violations m x.point.addr (step_of terms m text x).gives ≡ [] → Ending terms m j (AgreeAt m) (step_of terms m text x).gives la lb → Ending terms m j (AtStub m n) (step_of terms m text x).gives la lb
       by la lb e (Stays y among ca da cb db at ea eb) =
-          let k = not_shut m x.pair.addr (step_of terms m text x).gives e y among in
-          Stays y among ca da cb db (record { agree = at; open_ok = λ f. absurd (shut_open (word_number m y.pair.addr) k f); entry_ok = λ f. absurd (shut_entry (word_number m y.pair.addr) k f); low_ok = λ f. absurd (shut_low (word_number m y.pair.addr) k f) }) ea eb
+          let k = not_shut m x.point.addr (step_of terms m text x).gives e y among in
+          Stays y among ca da cb db (record { agree = at; open_ok = λ f. absurd (shut_open (word_number m y.point.addr) k f); entry_ok = λ f. absurd (shut_entry (word_number m y.point.addr) k f); low_ok = λ f. absurd (shut_low (word_number m y.point.addr) k f) }) ea eb
       by la lb e (Left ca da cb db same out_a out_b ok_a ok_b agree ea eb) = Left ca da cb db same out_a out_b ok_a ok_b agree ea eb
       by la lb e (Shut same ea eb) = Shut same ea eb
 
@@ -146,7 +146,7 @@ module _ (terms : Terms) (key : List ℕ) (m : Module) (text : List ℕ) (caller
   abbrev Next : ℕ → List ℕ → List ℕ → Type 0
   Next k ca cb = (is_open k ≡ true → IsOpen k × (reg ca 6 < n) × (reg ca 6 ≡ reg cb 6)) × (k ≡ 17 → (i : ℕ) × (i < n) × (reg ca 6 ≡ 2 * i) × (reg cb 6 ≡ 2 * i)) × (nat_le k 18 ≡ true → IsOpen k ⊎ (k ≡ 17))
 
-  open_crossing : (insn : Insn) (gives : List Point) (ca da cb db : List ℕ) (k : ℕ) (q : Parts terms key m text caller shape insn gives ca da cb db) →
+  open_crossing : (insn : Insn) (gives : List PointState) (ca da cb db : List ℕ) (k : ℕ) (q : Parts terms key m text caller shape insn gives ca da cb db) →
       reg (confined true ca (does_freely insn ca q.values_a).core) 0 ≡ t0 + 2 * k → holds m.text (t0 + 2 * k) ≡ true →
       Next k (confined true ca (does_freely insn ca q.values_a).core) (confined true cb (does_freely insn cb q.values_b).core) → Crossing terms m j (AtStub m n) gives (at_rest ca da) (at_rest cb db)
   open_crossing insn gives ca da cb db k q pc inn next =
@@ -162,7 +162,7 @@ module _ (terms : Terms) (key : List ℕ) (m : Module) (text : List ℕ) (caller
     where
       by : (ca' cb' : List ℕ) → reg ca' 0 ≡ t0 + 2 * k → Next k ca' cb' → Landing terms m gives ca' q.left_a cb' q.left_b → Ending terms m j (AtStub m n) gives (at_rest ca' q.left_a) (at_rest cb' q.left_b)
       by ca' cb' pc next (In y among at) =
-          let e : word_number m y.pair.addr ≡ k = ap (word_number m) (sym at.pc_a ∙ pc) ∙ word_at_place k in
+          let e : word_number m y.point.addr ≡ k = ap (word_number m) (sym at.pc_a ∙ pc) ∙ word_at_place k in
           Stays y among ca' q.left_a cb' q.left_b
           (record { agree = at; open_ok = subst (λ k. is_open k ≡ true → IsOpen k × (reg ca' 6 < n) × (reg ca' 6 ≡ reg cb' 6)) (sym e) next.0; entry_ok = subst (λ k. k ≡ 17 → (i : ℕ) × (i < n) × (reg ca' 6 ≡ 2 * i) × (reg cb' 6 ≡ 2 * i)) (sym e) next.1; low_ok = subst (λ k. nat_le k 18 ≡ true → IsOpen k ⊎ (k ≡ 17)) (sym e) next.2 }) refl refl
       by ca' cb' pc next (Out same o out_b p q agree) = absurd (clash (holds m.text (reg ca' 0)) (ap (λ a. holds m.text a) pc ∙ inn) o)
@@ -170,7 +170,7 @@ module _ (terms : Terms) (key : List ℕ) (m : Module) (text : List ℕ) (caller
           clash : (b : Bool) → b ≡ true → b ≡ false → ⊥
           clash b e f = cc
 
-  step_is : (x : Point) (insn : Insn) → met m.text text x.pair.addr ≡ Some insn → step_of terms m text x ≡ step_insn terms m text (Some insn) x
+  step_is : (x : PointState) (insn : Insn) → met m.text text x.point.addr ≡ Some insn → step_of terms m text x ≡ step_insn terms m text (Some insn) x
   unfolding step_of
   step_is x insn e = ap (λ o. step_insn terms m text o x) e
 
@@ -257,15 +257,15 @@ module _ (terms : Terms) (key : List ℕ) (m : Module) (text : List ℕ) (caller
       next_word = ap (λ i. word_at (text_byte m.text text) i) (let e : t0 + 34 + 2 ≡ t0 + 36 = omega arith in e) ∙ stub_word 18 (t0 + 76) (omega arith) refl
 
   -- each of the four
-  module _ (x : Point) (ca da cb db : List ℕ) (at : AgreeAt m x ca da cb db) (few : reg ca 6 < n) (equal : reg ca 6 ≡ reg cb 6) (none : (step_of terms m text x).violations ≡ []) where
+  module _ (x : PointState) (ca da cb db : List ℕ) (at : AgreeAt m x ca da cb db) (few : reg ca 6 < n) (equal : reg ca 6 ≡ reg cb 6) (none : (step_of terms m text x).violations ≡ []) where
     abbrev Crosses : Type 0
     Crosses = Crossing terms m j (AtStub m n) (step_of terms m text x).gives (at_rest ca da) (at_rest cb db)
 
-    by_parts : (insn : Insn) (k k' : ℕ) → x.pair.addr ≡ t0 + 2 * k → k < 38 → k' < 38 → met m.text text (t0 + 2 * k) ≡ Some insn → step_insn terms m text (Some insn) x ≡ step_plain terms m text insn x → Does_alike terms key m text caller shape insn →
+    by_parts : (insn : Insn) (k k' : ℕ) → x.point.addr ≡ t0 + 2 * k → k < 38 → k' < 38 → met m.text text (t0 + 2 * k) ≡ Some insn → step_insn terms m text (Some insn) x ≡ step_plain terms m text insn x → Does_alike terms key m text caller shape insn →
         ((c vs : List ℕ) → reg c 0 ≡ t0 + 2 * k → length c ≡ 16 → reg c 6 < n → reg (confined true c (does_freely insn c vs).core) 0 ≡ t0 + 2 * k') →
         ((vs ws : List ℕ) → Next k' (confined true ca (does_freely insn ca vs).core) (confined true cb (does_freely insn cb ws).core)) → Crosses
     by_parts insn k k' here lt lt' met_it plain alike pc next =
-        let met_x : met m.text text x.pair.addr ≡ Some insn = ap (λ a. met m.text text a) here ∙ met_it in
+        let met_x : met m.text text x.point.addr ≡ Some insn = ap (λ a. met m.text text a) here ∙ met_it in
         let e : step_of terms m text x ≡ step_plain terms m text insn x = step_is x insn met_x ∙ plain in
         let q = plain_parts terms key m text caller shape insn alike x ca da cb db at met_x (ap (λ s. s.violations) (sym e) ∙ none) in
         subst (λ s. Crossing terms m j (AtStub m n) s.gives (at_rest ca da) (at_rest cb db)) (sym e)
@@ -277,25 +277,25 @@ module _ (terms : Terms) (key : List ℕ) (m : Module) (text : List ℕ) (caller
         never : k' ≡ 17 → ⊥
         never f = let g : is_open 17 ≡ true = subst (λ i. is_open i ≡ true) f o in absurd cc
 
-    at_10 : x.pair.addr ≡ t0 + 2 * 10 → Crosses
+    at_10 : x.point.addr ≡ t0 + 2 * 10 → Crosses
     at_10 here =
         by_parts (Two Mov Word (Reg 1) (Absolute m.ram.start)) 10 12 here (omega arith) (omega arith) met_10 refl (two_alike terms key m text caller shape Mov Word (Reg 1) (Absolute m.ram.start) tt)
         (λ c vs e long few. (moved_out 1 m.ram.start (t0 + 20) c vs e (even_place 10) (omega (arith, high_bits 12)) long).0 ∙ (let e : t0 + 20 + 4 ≡ t0 + 24 = omega arith in e))
         (λ vs ws. sixes 12 (next_core (Two Mov Word (Reg 1) (Absolute m.ram.start)) ca vs) (next_core (Two Mov Word (Reg 1) (Absolute m.ram.start)) cb ws) refl (inr (inl refl)) (moved_out 1 m.ram.start (t0 + 20) ca vs (at.pc_a ∙ here) (even_place 10) (omega (arith, high_bits 12)) at.core.long_a).1 (moved_out 1 m.ram.start (t0 + 20) cb ws (at.pc_b ∙ here) (even_place 10) (omega (arith, high_bits 12)) at.core.long_b).1)
 
-    at_12 : x.pair.addr ≡ t0 + 2 * 12 → Crosses
+    at_12 : x.point.addr ≡ t0 + 2 * 12 → Crosses
     at_12 here =
         by_parts (Two Mov Word (Reg 7) (Absolute (m.ram.start + 2))) 12 14 here (omega arith) (omega arith) met_12 refl (two_alike terms key m text caller shape Mov Word (Reg 7) (Absolute (m.ram.start + 2)) tt)
         (λ c vs e long few. (moved_out 7 (m.ram.start + 2) (t0 + 24) c vs e (even_place 12) (omega (arith, high_bits 14)) long).0 ∙ (let e : t0 + 24 + 4 ≡ t0 + 28 = omega arith in e))
         (λ vs ws. sixes 14 (next_core (Two Mov Word (Reg 7) (Absolute (m.ram.start + 2))) ca vs) (next_core (Two Mov Word (Reg 7) (Absolute (m.ram.start + 2))) cb ws) refl (inr (inr (inl refl))) (moved_out 7 (m.ram.start + 2) (t0 + 24) ca vs (at.pc_a ∙ here) (even_place 12) (omega (arith, high_bits 14)) at.core.long_a).1 (moved_out 7 (m.ram.start + 2) (t0 + 24) cb ws (at.pc_b ∙ here) (even_place 12) (omega (arith, high_bits 14)) at.core.long_b).1)
 
-    at_14 : x.pair.addr ≡ t0 + 2 * 14 → Crosses
+    at_14 : x.point.addr ≡ t0 + 2 * 14 → Crosses
     at_14 here =
         by_parts (Two Mov Word (Imm p) (Reg 1)) 14 16 here (omega arith) (omega arith) met_14 refl (two_alike terms key m text caller shape Mov Word (Imm p) (Reg 1) tt)
         (λ c vs e long few. (moved_in p (t0 + 28) c vs e (even_place 14) (omega (arith, high_bits 16)) long).0 ∙ (let e : t0 + 28 + 4 ≡ t0 + 32 = omega arith in e))
         (λ vs ws. sixes 16 (next_core (Two Mov Word (Imm p) (Reg 1)) ca vs) (next_core (Two Mov Word (Imm p) (Reg 1)) cb ws) refl (inr (inr (inr refl))) (moved_in p (t0 + 28) ca vs (at.pc_a ∙ here) (even_place 14) (omega (arith, high_bits 16)) at.core.long_a).1 (moved_in p (t0 + 28) cb ws (at.pc_b ∙ here) (even_place 14) (omega (arith, high_bits 16)) at.core.long_b).1)
 
-    at_16 : x.pair.addr ≡ t0 + 2 * 16 → Crosses
+    at_16 : x.point.addr ≡ t0 + 2 * 16 → Crosses
     at_16 here =
         let f = facts.few in
         by_parts (Two Add Word (Reg 6) (Reg 6)) 16 17 here (omega arith) (omega arith) met_16 refl (two_alike terms key m text caller shape Add Word (Reg 6) (Reg 6) tt)
@@ -348,18 +348,18 @@ module _ (terms : Terms) (key : List ℕ) (m : Module) (text : List ℕ) (caller
       by true false true false p q r s = refl
       by _ _ _ _ p q r s = absurd cc
 
-  abbrev entry_point : ℕ → List ℕ → List Val → List Val → Point
-  entry_point i returns core words =
+  abbrev entry_point : ℕ → List ℕ → List Val → List Val → PointState
+  entry_point i call_string core words =
       let a = text_word m text (38 + i) in
-      record { pair = record { addr = a; returns = returns }; label = record { core = put_val core 0 (Known a); words = words } }
+      record { point = record { addr = a; call_string = call_string }; state = record { core = put_val core 0 (Known a); words = words } }
 
-  entry_among : (k i : ℕ) (returns : List ℕ) (core words : List Val) → i < k → Among (entry_point i returns core words) (to_entries m text k returns core words)
-  entry_among zero i returns core words lt = absurd (omega arith)
-  entry_among (suc k) i returns core words lt = by (cases_lt i k) (λ l. entry_among k i returns core words l)
+  entry_among : (k i : ℕ) (call_string : List ℕ) (core words : List Val) → i < k → Among (entry_point i call_string core words) (to_entries m text k call_string core words)
+  entry_among zero i call_string core words lt = absurd (omega arith)
+  entry_among (suc k) i call_string core words lt = by (cases_lt i k) (λ l. entry_among k i call_string core words l)
     where
-      by : (i < k) ⊎ (k ≤ i) → (i < k → Among (entry_point i returns core words) (to_entries m text k returns core words)) → Among (entry_point i returns core words) (to_entries m text (suc k) returns core words)
+      by : (i < k) ⊎ (k ≤ i) → (i < k → Among (entry_point i call_string core words) (to_entries m text k call_string core words)) → Among (entry_point i call_string core words) (to_entries m text (suc k) call_string core words)
       by (inl l) go = inr (go l)
-      by (inr ge) go = let e : i ≡ k = omega arith in inl (ap (λ i. entry_point i returns core words) e)
+      by (inr ge) go = let e : i ≡ k = omega arith in inl (ap (λ i. entry_point i call_string core words) e)
 
   far_open : (a : ℕ) → t0 + 76 + 2 * n ≤ a → is_open (word_number m a) ≡ true → ⊥
   far_open a low e =
@@ -384,29 +384,29 @@ module _ (terms : Terms) (key : List ℕ) (m : Module) (text : List ℕ) (caller
   far_entry : (a : ℕ) → t0 + 76 + 2 * n ≤ a → word_number m a ≡ 17 → ⊥
   far_entry a low e = omega arith
 
-  module _ (x : Point) (ca da cb db : List ℕ) (at : AgreeAt m x ca da cb db) (here : x.pair.addr ≡ t0 + 34) (i : ℕ) (lt : i < n) (six_a : reg ca 6 ≡ 2 * i) (six_b : reg cb 6 ≡ 2 * i) (none : (step_entries m text x).violations ≡ []) where
+  module _ (x : PointState) (ca da cb db : List ℕ) (at : AgreeAt m x ca da cb db) (here : x.point.addr ≡ t0 + 34) (i : ℕ) (lt : i < n) (six_a : reg ca 6 ≡ 2 * i) (six_b : reg cb 6 ≡ 2 * i) (none : (step_entries m text x).violations ≡ []) where
     abbrev core_val : List Val
-    core_val = lowered_val (past_val (call_entry m) x.pair.addr x.label.core)
+    core_val = lowered_val (past_val (call_entry m) x.point.addr x.state.core)
 
     abbrev push : Reach
     push = record { kind = Write; addr = val core_val 1; width = Word }
 
     abbrev turned : ReturnTurn
-    turned = calls x.pair.addr x.pair.returns (x.pair.addr + 4)
+    turned = calls x.point.addr x.point.call_string (x.point.addr + 4)
 
     abbrev goal_of : ℕ
     goal_of = text_word m text (38 + i)
 
     lowered_both : AgreeCore m.text core_val (lowered (past (call_entry m) ca)) (lowered (past (call_entry m) cb))
     lowered_both =
-        lowered_agrees m.text (even terms key m text caller shape) (past_val (call_entry m) x.pair.addr x.label.core) (past (call_entry m) ca) (past (call_entry m) cb)
-        (past_agrees m.text (even terms key m text caller shape) (call_entry m) x.pair.addr x.label.core ca cb at.pc_a at.pc_b at.core)
+        lowered_agrees m.text (even terms key m text caller shape) (past_val (call_entry m) x.point.addr x.state.core) (past (call_entry m) ca) (past (call_entry m) cb)
+        (past_agrees m.text (even terms key m text caller shape) (call_entry m) x.point.addr x.state.core ca cb at.pc_a at.pc_b at.core)
 
     pushed : Fixed m (push ∷ []) (push_access (pushes_at ca) ∷ []) × ((push_access (pushes_at cb) ∷ []) ≡ (push_access (pushes_at ca) ∷ []))
     pushed =
-        fixed m x.pair.addr (push ∷ []) (push_access (pushes_at ca) ∷ []) (push_access (pushes_at cb) ∷ [])
+        fixed m x.point.addr (push ∷ []) (push_access (pushes_at ca) ∷ []) (push_access (pushes_at cb) ∷ [])
         (record { kind_a = refl; kind_b = refl; width_a = refl; width_b = refl; addr = lowered_both.at 1 }, tt)
-        (none_left (reach_violations m x.pair.addr (push ∷ [])) turned.violations none)
+        (none_left (reach_violations m x.point.addr (push ∷ [])) turned.violations none)
 
     same_push : pushes_at cb ≡ pushes_at ca
     same_push = ap head_addr pushed.1
@@ -458,13 +458,13 @@ module _ (terms : Terms) (key : List ℕ) (m : Module) (text : List ℕ) (caller
             put_other_reg (lowered (past (call_entry m) c)) 0 v 2 (λ e. absurd (omega arith)) ∙ put_other_reg (past (call_entry m) c) 1 (add16 (reg (past (call_entry m) c) 1) 65534) 2 (λ e. absurd (omega arith))
             ∙ put_other_reg c 0 (add16 (reg c 0) (2 * length_of (call_entry m))) 2 (λ e. absurd (omega arith))
 
-    returned : (c : List ℕ) → reg c 0 ≡ x.pair.addr → length c ≡ 16 → reg (past (call_entry m) c) 0 ≡ x.pair.addr + 4
+    returned : (c : List ℕ) → reg c 0 ≡ x.point.addr → length c ≡ 16 → reg (past (call_entry m) c) 0 ≡ x.point.addr + 4
     returned c e long =
-        past_pc_of (call_entry m) 2 x.pair.addr c refl e (ap (λ a. a % 2) here ∙ even_place 17) (subst (λ a. a + 4 < 65536) (sym here) (omega (arith, high_bits 19))) long
+        past_pc_of (call_entry m) 2 x.point.addr c refl e (ap (λ a. a % 2) here ∙ even_place 17) (subst (λ a. a + 4 < 65536) (sym here) (omega (arith, high_bits 19))) long
 
-    words_both : AgreeData m (writes_val m x.label.words (push ∷ []) (Known (x.pair.addr + 4) ∷ [])) (lone_writes m da (push_access (pushes_at ca) ∷ []) (reg (past (call_entry m) ca) 0 ∷ [])) (lone_writes m db (push_access (pushes_at ca) ∷ []) (reg (past (call_entry m) cb) 0 ∷ []))
+    words_both : AgreeData m (writes_val m x.state.words (push ∷ []) (Known (x.point.addr + 4) ∷ [])) (lone_writes m da (push_access (pushes_at ca) ∷ []) (reg (past (call_entry m) ca) 0 ∷ [])) (lone_writes m db (push_access (pushes_at ca) ∷ []) (reg (past (call_entry m) cb) 0 ∷ []))
     words_both =
-        writes_agree m shape x.label.words da db (push ∷ []) (push_access (pushes_at ca) ∷ []) (Known (x.pair.addr + 4) ∷ []) (reg (past (call_entry m) ca) 0 ∷ []) (reg (past (call_entry m) cb) 0 ∷ []) at.words pushed.0
+        writes_agree m shape x.state.words da db (push ∷ []) (push_access (pushes_at ca) ∷ []) (Known (x.point.addr + 4) ∷ []) (reg (past (call_entry m) ca) 0 ∷ []) (reg (past (call_entry m) cb) 0 ∷ []) at.words pushed.0
         ((returned ca at.pc_a at.core.long_a, returned cb at.pc_b at.core.long_b), tt)
 
     push_fine : (holds m.ram (pushes_at ca) ≡ true) × (pushes_at ca % 2 ≡ 0)
@@ -478,7 +478,7 @@ module _ (terms : Terms) (key : List ℕ) (m : Module) (text : List ℕ) (caller
         by false false p q e = absurd cc
         by true b p q e = absurd cc
 
-    calls_entry : (c d : List ℕ) → reg c 0 ≡ x.pair.addr → reg c 6 ≡ 2 * i → pushes_at c ≡ pushes_at ca → doing j (at_rest c d) ≡ Does (call_entry m)
+    calls_entry : (c d : List ℕ) → reg c 0 ≡ x.point.addr → reg c 6 ≡ 2 * i → pushes_at c ≡ pushes_at ca → doing j (at_rest c d) ≡ Does (call_entry m)
     calls_entry c d e six same =
         fetched terms key m text caller shape c d (call_entry m) (ap (λ a. a % 2) (e ∙ here) ∙ even_place 17) (ap (λ a. holds m.text a) (e ∙ here) ∙ in_place 17 (omega arith)) (ap (λ a. met m.text text a) (e ∙ here) ∙ met_17) refl
         (call_inside c (ap (λ a. holds m.text a) (place_is c six) ∙ in_table) (ap (λ a. a % 2) (place_is c six) ∙ even_place (38 + i)) (ap (λ a. holds m.ram a) same ∙ push_fine.0) (ap (λ a. a % 2) same ∙ push_fine.1))
@@ -489,7 +489,7 @@ module _ (terms : Terms) (key : List ℕ) (m : Module) (text : List ℕ) (caller
         let vb = entry_word cb db in
         let da' = lone_writes m da (push_access (pushes_at ca) ∷ []) (reg (past (call_entry m) ca) 0 ∷ []) in
         let db' = lone_writes m db (push_access (pushes_at ca) ∷ []) (reg (past (call_entry m) cb) 0 ∷ []) in
-        let words = writes_val m x.label.words (push ∷ []) (Known (x.pair.addr + 4) ∷ []) in
+        let words = writes_val m x.state.words (push ∷ []) (Known (x.point.addr + 4) ∷ []) in
         let count : entries_of m text ≡ n = facts.words 8 (omega arith) in
         let low = (facts.table i lt).1 in
         record {
@@ -499,7 +499,7 @@ module _ (terms : Terms) (key : List ℕ) (m : Module) (text : List ℕ) (caller
           to_b = at_rest (entered cb vb) db';
           pass_a = does_it j ca da (entered ca va) da' (call_entry m) 4 false (calls_entry ca da at.pc_a six_a refl) (call_so ca da);
           pass_b = does_it j cb db (entered cb vb) db' (call_entry m) 4 false (calls_entry cb db at.pc_b six_b same_push) (call_so cb db ∙ ap (λ a. after (entered cb vb) (lone_writes m db (push_access a ∷ []) (reg (past (call_entry m) cb) 0 ∷ [])) 4 false) same_push);
-          ending = Stays (entry_point i turned.returns core_val words) (subst (λ k. Among (entry_point i turned.returns core_val words) (to_entries m text k turned.returns core_val words)) (sym count) (entry_among n i turned.returns core_val words lt))
+          ending = Stays (entry_point i turned.call_string core_val words) (subst (λ k. Among (entry_point i turned.call_string core_val words) (to_entries m text k turned.call_string core_val words)) (sym count) (entry_among n i turned.call_string core_val words lt))
               (entered ca va) da' (entered cb vb) db'
               (record {
                 agree = record { pc_a = pc_is ca va (value_is ca da six_a) at.core.long_a; pc_b = pc_is cb vb (value_is cb db six_b) at.core.long_b; core = core_both; words = words_both; in_text = goal_in };
@@ -521,23 +521,23 @@ module _ (terms : Terms) (key : List ℕ) (m : Module) (text : List ℕ) (caller
             small l = let h = shape.text_high in omega arith
 
   -- ---- every step
-  pub stub_crossing : (x : Point) (ca da cb db : List ℕ) → AtStub m n x ca da cb db → (step_stub terms m text x).violations ≡ [] → Crossing terms m j (AtStub m n) (step_stub terms m text x).gives (at_rest ca da) (at_rest cb db)
+  pub stub_crossing : (x : PointState) (ca da cb db : List ℕ) → AtStub m n x ca da cb db → (step_stub terms m text x).violations ≡ [] → Crossing terms m j (AtStub m n) (step_stub terms m text x).gives (at_rest ca da) (at_rest cb db)
   unfolding step_stub
-  stub_crossing x ca da cb db at none = by (word_number m x.pair.addr == 17) (is_open (word_number m x.pair.addr)) refl refl none
+  stub_crossing x ca da cb db at none = by (word_number m x.point.addr == 17) (is_open (word_number m x.point.addr)) refl refl none
     where
-      place : (k : ℕ) → word_number m x.pair.addr ≡ k → x.pair.addr ≡ t0 + 2 * k
-      place k e = place_of_word x.pair.addr k e (ap (λ i. i % 2) (sym at.agree.pc_a) ∙ at.agree.core.even_pc) at.agree.in_text
+      place : (k : ℕ) → word_number m x.point.addr ≡ k → x.point.addr ≡ t0 + 2 * k
+      place k e = place_of_word x.point.addr k e (ap (λ i. i % 2) (sym at.agree.pc_a) ∙ at.agree.core.even_pc) at.agree.in_text
 
-      opened : IsOpen (word_number m x.pair.addr) → reg ca 6 < n → reg ca 6 ≡ reg cb 6 → (step_of terms m text x).violations ≡ [] → Crossing terms m j (AtStub m n) (step_of terms m text x).gives (at_rest ca da) (at_rest cb db)
+      opened : IsOpen (word_number m x.point.addr) → reg ca 6 < n → reg ca 6 ≡ reg cb 6 → (step_of terms m text x).violations ≡ [] → Crossing terms m j (AtStub m n) (step_of terms m text x).gives (at_rest ca da) (at_rest cb db)
       opened (inl e) few equal none = at_10 x ca da cb db at.agree few equal none (place 10 e)
       opened (inr (inl e)) few equal none = at_12 x ca da cb db at.agree few equal none (place 12 e)
       opened (inr (inr (inl e))) few equal none = at_14 x ca da cb db at.agree few equal none (place 14 e)
       opened (inr (inr (inr e))) few equal none = at_16 x ca da cb db at.agree few equal none (place 16 e)
 
-      by : (a b : Bool) → (word_number m x.pair.addr == 17) ≡ a → is_open (word_number m x.pair.addr) ≡ b →
-          (cond a (step_entries m text x) (shut_if b m x.pair.addr (step_of terms m text x))).violations ≡ [] → Crossing terms m j (AtStub m n) (cond a (step_entries m text x) (shut_if b m x.pair.addr (step_of terms m text x))).gives (at_rest ca da) (at_rest cb db)
+      by : (a b : Bool) → (word_number m x.point.addr == 17) ≡ a → is_open (word_number m x.point.addr) ≡ b →
+          (cond a (step_entries m text x) (shut_if b m x.point.addr (step_of terms m text x))).violations ≡ [] → Crossing terms m j (AtStub m n) (cond a (step_entries m text x) (shut_if b m x.point.addr (step_of terms m text x))).gives (at_rest ca da) (at_rest cb db)
       by true b e f none =
-          let k : word_number m x.pair.addr ≡ 17 = is_17 (word_number m x.pair.addr) e in
+          let k : word_number m x.point.addr ≡ 17 = is_17 (word_number m x.point.addr) e in
           let h = at.entry_ok k in
           entry_crossing x ca da cb db at.agree (place 17 k) h.0 h.1 h.2 h.3 none
         where

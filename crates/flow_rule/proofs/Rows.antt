@@ -9,7 +9,7 @@ use Rattle.flow_rule.specs.declared.Val.{Val}
 use Rattle.flow_rule.specs.declared.Val.TheVariants.{Known, Public, Secret}
 use Rattle.mod_layout.specs.declared.Module.{Module}
 use Rattle.flow_rule.specs.declared.Reason.TheVariants.{SecretBranch, UnknownTarget, SecretAtExit, ArmTime}
-use Rattle.flow_rule.specs.Rounds.{Point, RuleViolation, rounds, all_violations}
+use Rattle.flow_rule.specs.Iterations.{PointState, RuleViolation, iterations, all_violations}
 use Rattle.flow_rule.specs.Does.{plan_val, does_val}
 use Rattle.cycle_table.specs.Cycles.{cycles_of}
 use Rattle.arm_balance.specs.declared.Arm.{Arm}
@@ -27,17 +27,17 @@ bytes_of (w ∷ ws) = w % 256 ∷ w / 256 ∷ bytes_of ws
 abbrev module_of : ℕ → ℕ → ℕ → ℕ → Module
 module_of a b c d = record { id = 1; vendor = 7; text = record { start = a; end = b }; ram = record { start = c; end = d } }
 
-abbrev after_rounds : ℕ → Module → List ℕ → List Point
-after_rounds n m text = rounds (flow_step no_terms m text) (start_under no_terms m text) n
+abbrev after_iterations : ℕ → Module → List ℕ → List PointState
+after_iterations n m text = iterations (flow_step no_terms m text) (start_under no_terms m text) n
 
 abbrev violations_after : ℕ → Module → List ℕ → List RuleViolation
-violations_after n m text = all_violations (flow_step no_terms m text) (after_rounds n m text)
+violations_after n m text = all_violations (flow_step no_terms m text) (after_iterations n m text)
 
 row_22_yes : violations_after 3 (module_of 0x0300 0x0306 0x0400 0x0402) (bytes_of (0x4305 ∷ 0x4030 ∷ 0x0214 ∷ [])) ≡ []
 unfolding bytes_of met step_of step_stub has_stub plan_val does_val insn_of
 row_22_yes = refl
 
-row_22_fixed : after_rounds 3 (module_of 0x0300 0x0306 0x0400 0x0402) (bytes_of (0x4305 ∷ 0x4030 ∷ 0x0214 ∷ [])) ≡ after_rounds 2 (module_of 0x0300 0x0306 0x0400 0x0402) (bytes_of (0x4305 ∷ 0x4030 ∷ 0x0214 ∷ []))
+row_22_fixed : after_iterations 3 (module_of 0x0300 0x0306 0x0400 0x0402) (bytes_of (0x4305 ∷ 0x4030 ∷ 0x0214 ∷ [])) ≡ after_iterations 2 (module_of 0x0300 0x0306 0x0400 0x0402) (bytes_of (0x4305 ∷ 0x4030 ∷ 0x0214 ∷ []))
 unfolding bytes_of met step_of step_stub has_stub plan_val does_val insn_of
 row_22_fixed = refl
 
@@ -57,7 +57,7 @@ stub_yes : violations_after 24 (module_of 0x0800 0x0850 0x0a00 0x0a24) (bytes_of
 unfolding bytes_of stub_text met step_of step_stub has_stub plan_val does_val insn_of
 stub_yes = refl
 
-stub_length : length (after_rounds 24 (module_of 0x0800 0x0850 0x0a00 0x0a24) (bytes_of (stub_text (0x4130 ∷ [])))) ≡ 20
+stub_length : length (after_iterations 24 (module_of 0x0800 0x0850 0x0a00 0x0a24) (bytes_of (stub_text (0x4130 ∷ [])))) ≡ 20
 unfolding bytes_of stub_text met step_of step_stub has_stub plan_val does_val insn_of
 stub_length = refl
 
@@ -76,7 +76,7 @@ unfolding row_10_text bytes_of
 with_arms arms =
     let m = module_of 0x0300 0x0322 0x0400 0x0402 in
     let text = bytes_of row_10_text in
-    all_violations (flow_under no_terms m text arms) (rounds (flow_under no_terms m text arms) (start_under no_terms m text) 20)
+    all_violations (flow_under no_terms m text arms) (iterations (flow_under no_terms m text arms) (start_under no_terms m text) 20)
 
 arms_yes : with_arms (record { branch = 0x0304; join = 0x0318; cycles = 6 } ∷ []) ≡ []
 unfolding with_arms row_10_text bytes_of step_arms met step_of step_stub has_stub plan_val does_val insn_of cycles_of
@@ -106,16 +106,16 @@ branch_text : List ℕ
 branch_text = 0x2403 ∷ 0x4584 ∷ 0x0000 ∷ 0x3c03 ∷ 0x4684 ∷ 0x0000 ∷ 0x3c00 ∷ 0x4700 ∷ []
 
 -- at the branch, by what is known of R4, of R5, and of all other registers and words
-abbrev branch_at : Val → Val → Val → Point
+abbrev branch_at : Val → Val → Val → PointState
 branch_at four five other = record {
-  pair = record { addr = 0x0300; returns = [] };
-  label = record {
+  point = record { addr = 0x0300; call_string = [] };
+  state = record {
     core = Known 0x0300 ∷ other ∷ Secret ∷ Known 0 ∷ four ∷ five ∷ replicate 10 other;
     words = replicate 256 other;
   };
 }
 
-branch_told : Point → Walk × Walk
+branch_told : PointState → Walk × Walk
 unfolding branch_text bytes_of
 branch_told x =
     let m = module_of 0x0300 0x0310 0x0400 0x0402 in
@@ -137,7 +137,7 @@ branch_low : branch_told (branch_at (Known 0x0400) (Known 5) Public) ≡ (arm_wr
 unfolding branch_told arm_writes branch_text bytes_of met step_of step_stub has_stub plan_val does_val insn_of cycles_of
 branch_low = refl
 
--- where R4 is not known, the arms have violations, and no label is spoken of
+-- where R4 is not known, the arms have violations, and no state is spoken of
 branch_lost : branch_told (branch_at Public Secret Secret) ≡ (Stops 0x0302, Stops 0x0308)
 unfolding branch_told branch_text bytes_of met step_of step_stub has_stub plan_val does_val insn_of cycles_of
 branch_lost = refl

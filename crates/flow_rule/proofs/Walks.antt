@@ -5,7 +5,7 @@ use Rattle.insn_decode.specs.declared.insn.Insn.{Insn}
 use Rattle.mod_layout.specs.declared.Module.{Module}
 use Rattle.cycle_table.specs.Cycles.{cycles_of}
 use Rattle.flow_rule.specs.declared.Reason.TheVariants.{ArmTime}
-use Rattle.flow_rule.specs.Rounds.{Point}
+use Rattle.flow_rule.specs.Iterations.{PointState}
 use Rattle.flow_rule.specs.Does.{plan_val, write_reaches}
 use Rattle.flow_rule.specs.Violations.{violation_if}
 use Rattle.flow_rule.specs.Arms.{written_regs, written_words, Walk, Meets, Stops, walked, arm_violations}
@@ -18,9 +18,9 @@ abbrev pub met_regs : Option Insn → List ℕ
 met_regs None = []
 met_regs (Some insn) = written_regs insn
 
-abbrev pub met_words : Option Insn → Module → Point → List ℕ
+abbrev pub met_words : Option Insn → Module → PointState → List ℕ
 met_words None m x = []
-met_words (Some insn) m x = written_words m (write_reaches (plan_val insn x.pair.addr x.label.core))
+met_words (Some insn) m x = written_words m (write_reaches (plan_val insn x.point.addr x.state.core))
 
 -- a walk that comes to the join
 abbrev pub MeetsJoin : Walk → Type 0
@@ -45,14 +45,14 @@ abbrev pub with_met : Option Insn → List ℕ → Walk → Walk
 with_met o ws (Meets cycles regs words) = Meets (met_cycles o + cycles) (met_regs o ++ regs) (ws ++ words)
 with_met o ws (Stops addr) = Stops addr
 
-pub is_met : (o : Option Insn) (m : Module) (x : Point) (rest : Walk) → MeetsJoin (walked o m x rest) →
+pub is_met : (o : Option Insn) (m : Module) (x : PointState) (rest : Walk) → MeetsJoin (walked o m x rest) →
     walked o m x rest ≡ with_met o (met_words o m x) rest
 is_met None m x rest meets = absurd meets
 is_met (Some insn) m x (Meets cycles regs words) meets = refl
 is_met (Some insn) m x (Stops addr) meets = refl
 
 -- from two points at one address, where the same words are written
-pub walked_alike : (o : Option Insn) (m : Module) (x z : Point) (rest : Walk) → x.pair.addr ≡ z.pair.addr →
+pub walked_alike : (o : Option Insn) (m : Module) (x z : PointState) (rest : Walk) → x.point.addr ≡ z.point.addr →
     met_words o m x ≡ met_words o m z → walked o m x rest ≡ walked o m z rest
 walked_alike None m x z rest addr same = ap (λ a. Stops a) addr
 walked_alike (Some insn) m x z (Meets cycles regs words) addr same =
@@ -60,7 +60,7 @@ walked_alike (Some insn) m x z (Meets cycles regs words) addr same =
 walked_alike (Some insn) m x z (Stops a) addr same = refl
 
 -- the rest comes to the join too
-pub met_rest : (o : Option Insn) (m : Module) (x : Point) (rest : Walk) → MeetsJoin (walked o m x rest) → MeetsJoin rest
+pub met_rest : (o : Option Insn) (m : Module) (x : PointState) (rest : Walk) → MeetsJoin (walked o m x rest) → MeetsJoin rest
 met_rest o m x (Meets cycles regs words) meets = tt
 met_rest None m x (Stops addr) meets = meets
 met_rest (Some insn) m x (Stops addr) meets = meets

@@ -15,12 +15,12 @@ use Rattle.insn_decode.specs.declared.insn.Insn.TheVariants.{Two, One, Jump}
 use Rattle.mod_layout.specs.declared.Module.{Module}
 use Rattle.mod_layout.specs.Table.{holds}
 use Rattle.flow_rule.specs.Terms.{Terms, no_terms}
-use Rattle.flow_rule.specs.declared.Label.{Label}
+use Rattle.flow_rule.specs.declared.AbstractState.{AbstractState}
 use Rattle.flow_rule.specs.declared.Val.{Val}
 use Rattle.flow_rule.specs.declared.Val.TheVariants.{Known, Secret}
 use Rattle.flow_rule.specs.Values.{is_secret, set_each, val, put_val}
 use Rattle.flow_rule.specs.declared.Reason.TheVariants.{Arm as ArmInsn, ArmTime}
-use Rattle.flow_rule.specs.Rounds.{Point, RuleViolation, FlowStep}
+use Rattle.flow_rule.specs.Iterations.{PointState, RuleViolation, FlowStep}
 use Rattle.flow_rule.specs.declared.Reach.{Reach}
 use Rattle.flow_rule.specs.Does.{plan_val, write_reaches, word_no, does_val, past_val}
 use Rattle.flow_rule.specs.declared.Verdict.{Verdict}
@@ -57,49 +57,49 @@ pub data Walk : Type 0 where
   Stops : (addr : ℕ) → Walk
 
 -- Secret where a walk to the join writes
-abbrev pub clobbered_by : Walk → Label → Label
-clobbered_by (Meets cycles regs words) l =
-    record { core = clobbered_core regs l.core; words = set_each words Secret l.words }
-clobbered_by (Stops addr) l = l
+abbrev pub clobbered_by : Walk → AbstractState → AbstractState
+clobbered_by (Meets cycles regs words) s =
+    record { core = clobbered_core regs s.core; words = set_each words Secret s.words }
+clobbered_by (Stops addr) s = s
 
 -- an instruction of an arm, and the rest of it; where none is met the arm stops
-abbrev pub walked : Option Insn → Module → Point → Walk → Walk
-walked None m x rest = Stops x.pair.addr
+abbrev pub walked : Option Insn → Module → PointState → Walk → Walk
+walked None m x rest = Stops x.point.addr
 walked (Some insn) m x (Stops addr) = Stops addr
 walked (Some insn) m x (Meets cycles regs words) =
-    let ws = written_words m (write_reaches (plan_val insn x.pair.addr x.label.core)) in
+    let ws = written_words m (write_reaches (plan_val insn x.point.addr x.state.core)) in
     Meets (cycles_of insn + cycles) (written_regs insn ++ regs) (ws ++ words)
 
 -- from a point, by where an arm goes on from its instruction, and by what its step gives: a step out of the text has no
 -- violation, and the arm stops at the address outside
-abbrev pub walk_on : Option ℕ → List RuleViolation → List Point → Module → List ℕ → Point → (Point → Walk) → Walk
-walk_on None rs gs m text x rest = Stops x.pair.addr
-walk_on (Some next) (r ∷ rs) gs m text x rest = Stops x.pair.addr
+abbrev pub walk_on : Option ℕ → List RuleViolation → List PointState → Module → List ℕ → PointState → (PointState → Walk) → Walk
+walk_on None rs gs m text x rest = Stops x.point.addr
+walk_on (Some next) (r ∷ rs) gs m text x rest = Stops x.point.addr
 walk_on (Some next) [] [] m text x rest = Stops next
-walk_on (Some next) [] (y ∷ ys) m text x rest = walked (met m.text text x.pair.addr) m x (rest y)
+walk_on (Some next) [] (y ∷ ys) m text x rest = walked (met m.text text x.point.addr) m x (rest y)
 
 -- from a point to the join, by these steps
-abbrev pub walk : (Point → FlowStep) → Module → List ℕ → ℕ → ℕ → Point → Walk
-walk step m text join zero x = Stops x.pair.addr
+abbrev pub walk : (PointState → FlowStep) → Module → List ℕ → ℕ → ℕ → PointState → Walk
+walk step m text join zero x = Stops x.point.addr
 walk step m text join (suc fuel) x =
     let s = step x in
-    let rest = walk_on (arm_on m.text text join x.pair.addr) s.violations s.gives
+    let rest = walk_on (arm_on m.text text join x.point.addr) s.violations s.gives
     m text x (walk step m text join fuel) in
-    if x.pair.addr == join then Meets 0 [] [] else rest
+    if x.point.addr == join then Meets 0 [] [] else rest
 
 -- where an arm begins: past the jump, or at its target
-abbrev pub arm_start : Insn → ℕ → Point → List Val → Point
-arm_start insn a x core = record { pair = record { addr = kept 0 a; returns = x.pair.returns }; label = record { core = core; words = x.label.words } }
+abbrev pub arm_start : Insn → ℕ → PointState → List Val → PointState
+arm_start insn a x core = record { point = record { addr = kept 0 a; call_string = x.point.call_string }; state = record { core = core; words = x.state.words } }
 
 -- along the arm that the jump does not take, and along the one that it takes
-abbrev pub first_walk : (Point → FlowStep) → Module → List ℕ → Insn → Arm → Point → Walk
+abbrev pub first_walk : (PointState → FlowStep) → Module → List ℕ → Insn → Arm → PointState → Walk
 first_walk step m text insn arm x =
-    let pc = x.pair.addr in
-    walk step m text arm.join (suc arm.join) (arm_start insn (add16 pc 2) x (past_val insn pc x.label.core))
+    let pc = x.point.addr in
+    walk step m text arm.join (suc arm.join) (arm_start insn (add16 pc 2) x (past_val insn pc x.state.core))
 
-abbrev pub second_walk : (Point → FlowStep) → Module → List ℕ → Insn → ℕ → Arm → Point → Walk
+abbrev pub second_walk : (PointState → FlowStep) → Module → List ℕ → Insn → ℕ → Arm → PointState → Walk
 second_walk step m text insn target arm x =
-    walk step m text arm.join (suc arm.join) (arm_start insn target x (does_val insn x.pair.addr x.label.core []).core)
+    walk step m text arm.join (suc arm.join) (arm_start insn target x (does_val insn x.point.addr x.state.core []).core)
 
 -- an arm that stops has a violation by Arm with the address, one of another time by ArmTime with its number
 abbrev pub arm_violations : ℕ → ℕ → ℕ → Walk → List RuleViolation
@@ -107,36 +107,36 @@ arm_violations branch time number (Meets cycles regs words) = violation_if (not 
 arm_violations branch time number (Stops addr) = violation branch ArmInsn addr
 
 -- the rule of a branch with a certificate
-abbrev pub step_arm : (Point → FlowStep) → Module → List ℕ → Insn → ℕ → Arm → Point → FlowStep
+abbrev pub step_arm : (PointState → FlowStep) → Module → List ℕ → Insn → ℕ → Arm → PointState → FlowStep
 step_arm step m text insn target arm x =
-    let pc = x.pair.addr in
+    let pc = x.point.addr in
     let w0 = first_walk step m text insn arm x in
     let w1 = second_walk step m text insn target arm x in
-    let l = clobbered_by w1 (clobbered_by w0 x.label) in
+    let s = clobbered_by w1 (clobbered_by w0 x.state) in
     record {
       violations = violation_if (not (holds m.text arm.join)) pc ArmInsn arm.join
           ++ arm_violations pc arm.cycles 0 w0 ++ arm_violations pc arm.cycles 1 w1;
       gives = record {
-        pair = record { addr = arm.join; returns = x.pair.returns };
-        label = record { core = slice_set l.core 0 (Known arm.join); words = l.words };
+        point = record { addr = arm.join; call_string = x.point.call_string };
+        state = record { core = slice_set s.core 0 (Known arm.join); words = s.words };
       } ∷ [];
     }
 
-abbrev pub step_branch : Option Arm → (Point → FlowStep) → Module → List ℕ → Insn → Point → ℕ → FlowStep
+abbrev pub step_branch : Option Arm → (PointState → FlowStep) → Module → List ℕ → Insn → PointState → ℕ → FlowStep
 step_branch None step m text insn x target = step x
 step_branch (Some arm) step m text insn x target = step_arm step m text insn target arm x
 
 -- only a conditional jump with Secret flags whose address is a branch of the list is taken otherwise
-abbrev pub step_arms_by : Option Insn → (Point → FlowStep) → List Arm → Module → List ℕ → Point → FlowStep
+abbrev pub step_arms_by : Option Insn → (PointState → FlowStep) → List Arm → Module → List ℕ → PointState → FlowStep
 step_arms_by (Some (Jump condition off)) step arms m text x =
-    if not (is_always condition) && is_secret (val x.label.core 2) then step_branch (find (λ arm. arm.branch == x.pair.addr) arms) step m text (Jump condition off) x (add16 (add16 x.pair.addr 2) (distance off)) else step x
+    if not (is_always condition) && is_secret (val x.state.core 2) then step_branch (find (λ arm. arm.branch == x.point.addr) arms) step m text (Jump condition off) x (add16 (add16 x.point.addr 2) (distance off)) else step x
 step_arms_by o step arms m text x = step x
 
-unfoldable pub step_arms : (Point → FlowStep) → List Arm → Module → List ℕ → Point → FlowStep
-step_arms step arms m text x = step_arms_by (met m.text text x.pair.addr) step arms m text x
+unfoldable pub step_arms : (PointState → FlowStep) → List Arm → Module → List ℕ → PointState → FlowStep
+step_arms step arms m text x = step_arms_by (met m.text text x.point.addr) step arms m text x
 
 -- the step under terms and with certificates
-abbrev pub flow_under : Terms → Module → List ℕ → List Arm → Point → FlowStep
+abbrev pub flow_under : Terms → Module → List ℕ → List Arm → PointState → FlowStep
 flow_under terms m text arms = step_arms (flow_step terms m text) arms m text
 
 -- the verdict of a text under terms, with these certificates or with none

@@ -54,7 +54,7 @@ Released = (terms : Terms) (m : Module) (text : List ℕ) (arms : List Arm) → 
 abbrev pub Kept : Type 0
 Kept = (terms : Terms) (m : Module) (text : List ℕ) (arms : List Arm) → IsSection m.text → IsSection m.ram → VerdictUnder terms m text arms Yes → KeptUnder terms m text
 
--- every text has a verdict, under any terms and certificates: the rounds end
+-- every text has a verdict, under any terms and certificates: the iterations end
 abbrev pub SomeVerdict : Type 0
 SomeVerdict = (terms : Terms) (m : Module) (text : List ℕ) (arms : List Arm) → (v : Verdict) × VerdictUnder terms m text arms v
 

@@ -1,4 +1,4 @@
--- The transfer function at a program point: an instruction's violations, and the pairs and labels that it gives.
+-- The transfer function at a program point: an instruction's violations, and the points and states that it gives.
 use Rattle.std.specs.Prelude.{ℕ, List, [], ◌++◌, map, if◌then◌else◌, Option, Some, None}
 use Rattle.sm_words.specs.Words.{word_at}
 use Rattle.insn_decode.specs.declared.insn.Condition.{Condition}
@@ -13,46 +13,46 @@ use Rattle.flow_rule.specs.Terms.{Terms}
 use Rattle.flow_rule.specs.declared.Val.TheVariants.{Public}
 use Rattle.flow_rule.specs.Values.{is_secret, val, put_val}
 use Rattle.flow_rule.specs.declared.Reason.TheVariants.{SecretBranch, UnknownTarget, Illegal, Unit as UnitWord}
-use Rattle.flow_rule.specs.Rounds.{Point, FlowStep}
+use Rattle.flow_rule.specs.Iterations.{PointState, FlowStep}
 use Rattle.flow_rule.specs.Does.{plan_val, read_val, writes_val, read_reaches, write_reaches, does_val, past_val}
 use Rattle.flow_rule.specs.Violations.{violation_if, reach_violations}
 use Rattle.flow_rule.specs.Going.{closes, goes, both, also, fails}
-use Rattle.flow_rule.specs.Returns.{return_turn}
+use Rattle.flow_rule.specs.CallStrings.{return_turn}
 
--- reads, the operation, the list of return addresses, writes
+-- reads, the operation, the call string, writes
 -- a return to another place than the newest address is refused
-abbrev pub step_plain : Terms → Module → List ℕ → Insn → Point → FlowStep
+abbrev pub step_plain : Terms → Module → List ℕ → Insn → PointState → FlowStep
 step_plain terms m text insn x =
-    let pc = x.pair.addr in
-    let xs = plan_val insn pc x.label.core in
-    let values = map (read_val m text x.label.words) (read_reaches xs) in
-    let d = does_val insn pc x.label.core values in
-    let t = return_turn insn pc x.pair.returns values in
+    let pc = x.point.addr in
+    let xs = plan_val insn pc x.state.core in
+    let values = map (read_val m text x.state.words) (read_reaches xs) in
+    let d = does_val insn pc x.state.core values in
+    let t = return_turn insn pc x.point.call_string values in
     also (reach_violations m pc xs ++ t.violations)
-    (if t.stops then fails pc UnknownTarget 0 else goes terms m pc t.returns d.core (writes_val m x.label.words (write_reaches xs) d.stored))
+    (if t.stops then fails pc UnknownTarget 0 else goes terms m pc t.call_string d.core (writes_val m x.state.words (write_reaches xs) d.stored))
 
 -- a jump that is always taken has one way; any other has both, and its flags may not be secret
-abbrev pub step_jump : Terms → Module → List ℕ → Insn → Condition → Point → FlowStep
+abbrev pub step_jump : Terms → Module → List ℕ → Insn → Condition → PointState → FlowStep
 step_jump terms m text insn condition x =
-    let pc = x.pair.addr in
-    let taken = goes terms m pc x.pair.returns (does_val insn pc x.label.core []).core x.label.words in
+    let pc = x.point.addr in
+    let taken = goes terms m pc x.point.call_string (does_val insn pc x.state.core []).core x.state.words in
     if is_always condition then taken
-    else also (violation_if (is_secret (val x.label.core 2)) pc SecretBranch 0) (both taken (goes terms m pc x.pair.returns (past_val insn pc x.label.core) x.label.words))
+    else also (violation_if (is_secret (val x.state.core 2)) pc SecretBranch 0) (both taken (goes terms m pc x.point.call_string (past_val insn pc x.state.core) x.state.words))
 
 -- unprotect closes; own id and caller id are public; the others are refused
-abbrev pub step_unit : Terms → Module → Insn → UnitName → Point → FlowStep
-step_unit terms m insn Unprotect x = closes terms x.pair.addr x.label.core
-step_unit terms m insn OwnId x = goes terms m x.pair.addr x.pair.returns (put_val (past_val insn x.pair.addr x.label.core) 15 Public) x.label.words
-step_unit terms m insn CallerId x = goes terms m x.pair.addr x.pair.returns (put_val (past_val insn x.pair.addr x.label.core) 15 Public) x.label.words
-step_unit terms m insn name x = fails x.pair.addr UnitWord (unit_code name)
+abbrev pub step_unit : Terms → Module → Insn → UnitName → PointState → FlowStep
+step_unit terms m insn Unprotect x = closes terms x.point.addr x.state.core
+step_unit terms m insn OwnId x = goes terms m x.point.addr x.point.call_string (put_val (past_val insn x.point.addr x.state.core) 15 Public) x.state.words
+step_unit terms m insn CallerId x = goes terms m x.point.addr x.point.call_string (put_val (past_val insn x.point.addr x.state.core) 15 Public) x.state.words
+step_unit terms m insn name x = fails x.point.addr UnitWord (unit_code name)
 
-abbrev pub step_insn : Terms → Module → List ℕ → Option Insn → Point → FlowStep
-step_insn terms m text None x = fails x.pair.addr Illegal (word_at (text_byte m.text text) x.pair.addr)
-step_insn terms m text (Some Reti) x = fails x.pair.addr Illegal (word_at (text_byte m.text text) x.pair.addr)
+abbrev pub step_insn : Terms → Module → List ℕ → Option Insn → PointState → FlowStep
+step_insn terms m text None x = fails x.point.addr Illegal (word_at (text_byte m.text text) x.point.addr)
+step_insn terms m text (Some Reti) x = fails x.point.addr Illegal (word_at (text_byte m.text text) x.point.addr)
 step_insn terms m text (Some (Jump condition off)) x = step_jump terms m text (Jump condition off) condition x
 step_insn terms m text (Some (UnitOp name)) x = step_unit terms m (UnitOp name) name x
 step_insn terms m text (Some insn) x = step_plain terms m text insn x
 
--- the step at a pair: what is met at its address
-unfoldable pub step_of : Terms → Module → List ℕ → Point → FlowStep
-step_of terms m text x = step_insn terms m text (met m.text text x.pair.addr) x
+-- the step at a point: what is met at its address
+unfoldable pub step_of : Terms → Module → List ℕ → PointState → FlowStep
+step_of terms m text x = step_insn terms m text (met m.text text x.point.addr) x

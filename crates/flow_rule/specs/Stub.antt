@@ -16,11 +16,11 @@ use Rattle.flow_rule.specs.declared.Val.{Val}
 use Rattle.flow_rule.specs.declared.Val.TheVariants.{Known}
 use Rattle.flow_rule.specs.Values.{val, put_val}
 use Rattle.flow_rule.specs.declared.Reason.TheVariants.{UnknownTarget}
-use Rattle.flow_rule.specs.Rounds.{Point, RuleViolation, FlowStep}
+use Rattle.flow_rule.specs.Iterations.{PointState, RuleViolation, FlowStep}
 use Rattle.flow_rule.specs.declared.Reach.{Reach}
 use Rattle.flow_rule.specs.Does.{writes_val, past_val, lowered_val}
 use Rattle.flow_rule.specs.Violations.{violation_if, reach_violations}
-use Rattle.flow_rule.specs.Returns.{calls}
+use Rattle.flow_rule.specs.CallStrings.{calls}
 use Rattle.flow_rule.specs.Steps.{step_of}
 
 -- word k of the text
@@ -65,38 +65,38 @@ abbrev pub is_open : ℕ → Bool
 is_open k = nat_le body_word k && nat_le k (call_word - 1)
 
 -- a step from outside into the stub's closed words
-abbrev pub shut_violations : Module → ℕ → List Point → List RuleViolation
-shut_violations m pc xs = flat_map (λ x. violation_if (is_shut (word_number m x.pair.addr)) pc UnknownTarget 0) xs
+abbrev pub shut_violations : Module → ℕ → List PointState → List RuleViolation
+shut_violations m pc xs = flat_map (λ x. violation_if (is_shut (word_number m x.point.addr)) pc UnknownTarget 0) xs
 
 -- an instruction that is none of the open words may not go there
 abbrev pub shut_if : Bool → Module → ℕ → FlowStep → FlowStep
 shut_if true m pc s = s
 shut_if false m pc s = record { violations = s.violations ++ shut_violations m pc s.gives; gives = s.gives }
 
--- the first k entries of the table, each with this list and label
-abbrev pub to_entries : Module → List ℕ → ℕ → List ℕ → List Val → List Val → List Point
-to_entries m text zero returns core words = []
-to_entries m text (suc k) returns core words =
+-- the first k entries of the table, each with this call string and state
+abbrev pub to_entries : Module → List ℕ → ℕ → List ℕ → List Val → List Val → List PointState
+to_entries m text zero call_string core words = []
+to_entries m text (suc k) call_string core words =
     let a = text_word m text (front_words + k) in
-    record { pair = record { addr = a; returns = returns }; label = record { core = put_val core 0 (Known a); words = words } } ∷ to_entries m text k returns core words
+    record { point = record { addr = a; call_string = call_string }; state = record { core = put_val core 0 (Known a); words = words } } ∷ to_entries m text k call_string core words
 
 abbrev pub call_entry : Module → Insn
 call_entry m = One Call Word (Indexed 6 (m.text.start + 2 * front_words))
 
 -- word 17: each address of the table, with the address of word 19 pushed
-abbrev pub step_entries : Module → List ℕ → Point → FlowStep
+abbrev pub step_entries : Module → List ℕ → PointState → FlowStep
 step_entries m text x =
-    let pc = x.pair.addr in
-    let core = lowered_val (past_val (call_entry m) pc x.label.core) in
+    let pc = x.point.addr in
+    let core = lowered_val (past_val (call_entry m) pc x.state.core) in
     let push : Reach = record { kind = Write; addr = val core 1; width = Word } in
-    let t = calls pc x.pair.returns (pc + 4) in
+    let t = calls pc x.point.call_string (pc + 4) in
     record {
       violations = reach_violations m pc (push ∷ []) ++ t.violations;
-      gives = to_entries m text (entries_of m text) t.returns core (writes_val m x.label.words (push ∷ []) (Known (pc + 4) ∷ []));
+      gives = to_entries m text (entries_of m text) t.call_string core (writes_val m x.state.words (push ∷ []) (Known (pc + 4) ∷ []));
     }
 
 -- the call goes to each entry; every other word does its own step
-unfoldable pub step_stub : Terms → Module → List ℕ → Point → FlowStep
+unfoldable pub step_stub : Terms → Module → List ℕ → PointState → FlowStep
 step_stub terms m text x =
-    let k = word_number m x.pair.addr in
-    if k == call_word then step_entries m text x else shut_if (is_open k) m x.pair.addr (step_of terms m text x)
+    let k = word_number m x.point.addr in
+    if k == call_word then step_entries m text x else shut_if (is_open k) m x.point.addr (step_of terms m text x)

@@ -7,7 +7,7 @@ use Rattle.flow_rule.specs.declared.Val.TheVariants.{Known, Secret}
 use Rattle.flow_rule.specs.Values.{is_secret, val}
 use Rattle.flow_rule.specs.declared.Reason.{Reason}
 use Rattle.flow_rule.specs.declared.Reason.TheVariants.{SecretBranch, SecretAddress, OutsideAccess, SecretAtExit, UnknownTarget, Illegal, Unit as UnitWord, TooMany, Arm as ArmInsn, ArmTime, DataAtExit}
-use Rattle.flow_rule.specs.Rounds.{RuleViolation}
+use Rattle.flow_rule.specs.Iterations.{RuleViolation}
 use Rattle.flow_rule.specs.declared.Reach.{Reach}
 use Rattle.flow_rule.specs.Does.{may_reach, word_no}
 

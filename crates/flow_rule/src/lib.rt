@@ -36,10 +36,10 @@ pub struct Told {
     pub flags: Option<Val>,
 }
 
-/// What is known at a pair: of each register by its number (PC's value is the pair's address, SR's is the
+/// What is known at a program point: of each register by its number (PC's value is the point's address, SR's is the
 /// flags'), and of the first 256 words of the data. Of other data nothing is known.
 #[derive(Clone, Copy, Debug, PartialEq, Eq)]
-pub struct Label {
+pub struct AbstractState {
     pub core: [Val; 16],
     pub words: [Val; 256],
 }
@@ -83,7 +83,7 @@ pub fn released()
     ensures kept { Kept }
 {}
 
-/// Where a branch has no violation under a label, its arms do the same under every label that this one absorbs.
+/// Where a branch has no violation under a state, its arms do the same under every state that this one absorbs.
 pub fn arms_rest()
     ensures rest { ArmsRest }
 {}

@@ -8,15 +8,15 @@ use Rattle.insn_decode.specs.declared.insn.Insn.TheVariants.{Jump}
 use Rattle.mod_layout.specs.declared.Module.{Module}
 use Rattle.arm_balance.specs.Met.{met}
 use Rattle.flow_rule.specs.Arms.{step_branch, step_arms_by, step_arms, flow_under, VerdictUnder}
-use Rattle.flow_rule.specs.Rounds.{Point, RuleViolation, FlowStep, given_by, given_points, rounds, all_violations}
+use Rattle.flow_rule.specs.Iterations.{PointState, RuleViolation, FlowStep, given_by, given_points, iterations, all_violations}
 use Rattle.flow_rule.specs.Terms.{Terms}
 use Rattle.flow_rule.specs.Values.{is_secret, val}
-use Rattle.flow_rule.specs.Verdict.{Decided, flow_step, most_pairs, start_under}
+use Rattle.flow_rule.specs.Verdict.{Decided, flow_step, most_points, start_under}
 use Rattle.flow_rule.specs.Violations.{AmongThem}
 use Rattle.flow_rule.specs.declared.Verdict.{Verdict}
 use Rattle.flow_rule.specs.declared.Verdict.TheVariants.{Yes, No}
 use Rattle.flow_rule.proofs.Telling.{on_list}
-use Rattle.granted_terms.proofs.Covering.{Held, EachHeld, held_lower, each_both, EachRests, Settled, settled, all_in_held, distinct_rounds, no_more}
+use Rattle.granted_terms.proofs.Covering.{Held, EachHeld, held_lower, each_both, EachRests, Settled, settled, all_in_held, distinct_iterations, no_more}
 use Rattle.granted_terms.proofs.Forgiven.{Forgiven, EachForgiven, Lower, EachLower, Follows}
 use Rattle.granted_terms.proofs.Starts.{start_lower}
 use Rattle.granted_terms.proofs.Steps.{step_below}
@@ -35,12 +35,12 @@ among_forgiven now other r (q ∷ rs) h (inr a) = among_forgiven now other r rs 
 
 -- ---- steps that lie below those of a labelling without a violation
 -- from a point that is lower than one where the step has no violation, the other gives lower points and violations that are forgiven
-abbrev Below : Terms → Terms → (Point → FlowStep) → (Point → FlowStep) → Type 0
+abbrev Below : Terms → Terms → (PointState → FlowStep) → (PointState → FlowStep) → Type 0
 Below now other above below =
-    (top low : Point) → Lower top low → (above top).violations ≡ [] → Follows now other (above top) (below low)
+    (top low : PointState) → Lower top low → (above top).violations ≡ [] → Follows now other (above top) (below low)
 
-module _ (now other : Terms) (above below : Point → FlowStep) (follows : Below now other above below) (start low : Point) (ts : List Point) (rest : Settled above start ts) where
-  gives_held : (gs ls : List Point) → EachLower gs ls → EachHeld gs ts → EachHeld ls ts
+module _ (now other : Terms) (above below : PointState → FlowStep) (follows : Below now other above below) (start low : PointState) (ts : List PointState) (rest : Settled above start ts) where
+  gives_held : (gs ls : List PointState) → EachLower gs ls → EachHeld gs ts → EachHeld ls ts
   gives_held [] [] l h = tt
   gives_held (g ∷ gs) (x ∷ ls) l h = (held_lower g x ts l.0 h.0, gives_held gs ls l.1 h.1)
   gives_held [] (x ∷ ls) l h = absurd l
@@ -53,7 +53,7 @@ module _ (now other : Terms) (above below : Point → FlowStep) (follows : Below
       by [] = h
       by (r ∷ rs) = tt
 
-  step_held : (x : Point) (xs : List Point) → EachRests above ts xs → Held x xs →
+  step_held : (x : PointState) (xs : List PointState) → EachRests above ts xs → Held x xs →
       EachForgiven now other (below x).violations × EachHeld (given_by (below x)) ts
   step_held x [] r h = absurd h
   step_held x (t ∷ xs) r (inl l) =
@@ -61,38 +61,38 @@ module _ (now other : Terms) (above below : Point → FlowStep) (follows : Below
       (f.forgiven, given_held (below x) (gives_held (above t).gives (below x).gives f.gives r.0.gives))
   step_held x (t ∷ xs) r (inr h) = step_held x xs r.1 h
 
-  each_given : (xs : List Point) → EachHeld xs ts → EachHeld (given_points below xs) ts
+  each_given : (xs : List PointState) → EachHeld xs ts → EachHeld (given_points below xs) ts
   each_given [] h = tt
   each_given (x ∷ xs) h =
       each_both (given_by (below x)) (given_points below xs) ts (step_held x ts rest.rests h.0).1 (each_given xs h.1)
 
-  each_forgiven : (xs : List Point) → EachHeld xs ts → EachForgiven now other (all_violations below xs)
+  each_forgiven : (xs : List PointState) → EachHeld xs ts → EachForgiven now other (all_violations below xs)
   each_forgiven [] h = tt
   each_forgiven (x ∷ xs) h =
       each_append now other (below x).violations (all_violations below xs) (step_held x ts rest.rests h.0).0
       (each_forgiven xs h.1)
 
-  rounds_held : Lower start low → (n : ℕ) → EachHeld (rounds below low n) ts
-  rounds_held l zero = (held_lower start low ts l rest.begins, tt)
-  rounds_held l (suc n) =
-      let xs = rounds below low n in
-      let h = rounds_held l n in
+  iterations_held : Lower start low → (n : ℕ) → EachHeld (iterations below low n) ts
+  iterations_held l zero = (held_lower start low ts l rest.begins, tt)
+  iterations_held l (suc n) =
+      let xs = iterations below low n in
+      let h = iterations_held l n in
       all_in_held (given_points below xs) xs ts rest.distinct (each_given xs h) h
 
-  decided_forgiven : (begin : ℕ) (v : Verdict) → Lower start low → length ts ≤ most_pairs → Decided below low begin v →
+  decided_forgiven : (begin : ℕ) (v : Verdict) → Lower start low → length ts ≤ most_points → Decided below low begin v →
       IsForgiven now other v
   decided_forgiven begin Yes l few d = tt
   decided_forgiven begin (No addr why value) l few (inl d) =
-      let held = subst (λ xs. EachHeld xs ts) d.1.is (rounds_held l d.1.rounds_to) in
+      let held = subst (λ xs. EachHeld xs ts) d.1.is (iterations_held l d.1.iterations_to) in
       among_forgiven now other _ (all_violations below d.0) (each_forgiven d.0 held) d.3
   decided_forgiven begin (No addr why value) l few (inr d) =
-      let xs = rounds below low d.0 in
-      absurd (omega (arith, d.1, few, no_more xs ts (distinct_rounds below low d.0) (rounds_held l d.0)))
+      let xs = iterations below low d.0 in
+      absurd (omega (arith, d.1, few, no_more xs ts (distinct_iterations below low d.0) (iterations_held l d.0)))
 
 -- ---- without certificates
-plain : (terms : Terms) (m : Module) (text : List ℕ) (x : Point) → flow_under terms m text [] x ≡ flow_step terms m text x
+plain : (terms : Terms) (m : Module) (text : List ℕ) (x : PointState) → flow_under terms m text [] x ≡ flow_step terms m text x
 unfolding step_arms
-plain terms m text x = by (met m.text text x.pair.addr)
+plain terms m text x = by (met m.text text x.point.addr)
   where
     branch : (b : Bool) (insn : Insn) (target : ℕ) → cond b (step_branch None (flow_step terms m text) m text insn x target) (flow_step terms m text x) ≡ flow_step terms m text x
     branch true insn target = refl
@@ -100,8 +100,8 @@ plain terms m text x = by (met m.text text x.pair.addr)
 
     by : (o : Option Insn) → step_arms_by o (flow_step terms m text) [] m text x ≡ flow_step terms m text x
     by (Some (Jump condition off)) =
-        branch (not (is_always condition) && is_secret (val x.label.core 2)) (Jump condition off)
-        (add16 (add16 x.pair.addr 2) (distance off))
+        branch (not (is_always condition) && is_secret (val x.state.core 2)) (Jump condition off)
+        (add16 (add16 x.point.addr 2) (distance off))
     by _ = refl
 
 module _ (now other : Terms) (m : Module) (text : List ℕ) where

@@ -2,7 +2,7 @@
 use Rattle.std.proofs.Common.{◌≡◌, ℕ, List, [], ◌∷◌, true, false}
 use Rattle.flow_rule.specs.Terms.{Terms}
 use Rattle.flow_rule.specs.declared.Reason.TheVariants.{SecretAtExit, DataAtExit}
-use Rattle.flow_rule.specs.Rounds.{Point, RuleViolation, FlowStep}
+use Rattle.flow_rule.specs.Iterations.{PointState, RuleViolation, FlowStep}
 use Rattle.flow_rule.proofs.Telling.{on_list}
 use Rattle.flow_rule.proofs.Absorbing.{AbsorbsEach}
 
@@ -20,14 +20,14 @@ abbrev pub EachForgiven : Terms → Terms → List RuleViolation → Type 0
 EachForgiven now other [] = Unit {0}
 EachForgiven now other (r ∷ rs) = Forgiven now other r × EachForgiven now other rs
 
--- a point of the same pair, whose label the first's absorbs
-pub record Lower (top low : Point) : Type 0 where
-  pub pair : low.pair ≡ top.pair
-  pub core : AbsorbsEach top.label.core low.label.core
-  pub words : AbsorbsEach top.label.words low.label.words
+-- the same program point, whose state the first's absorbs
+pub record Lower (top low : PointState) : Type 0 where
+  pub point : low.point ≡ top.point
+  pub core : AbsorbsEach top.state.core low.state.core
+  pub words : AbsorbsEach top.state.words low.state.words
 
 -- two lists of points, one by one
-abbrev pub EachLower : List Point → List Point → Type 0
+abbrev pub EachLower : List PointState → List PointState → Type 0
 EachLower [] [] = Unit {0}
 EachLower (x ∷ xs) (y ∷ ys) = Lower x y × EachLower xs ys
 EachLower _ _ = ⊥

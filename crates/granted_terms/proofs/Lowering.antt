@@ -1,10 +1,10 @@
--- Points of one pair, of which the first's label absorbs the second's.
+-- States at one program point, of which the first absorbs the second.
 use Rattle.std.proofs.Common.{◌≡◌, List, [], ◌∷◌, refl, sym, ◌∙◌, arith, Bool, true, false, cond, ◌==◌}
 use Rattle.std.proofs.lemmas.Bool.Decides.{nat_tests}
 use Rattle.flow_rule.specs.declared.Val.{Val}
 use Rattle.flow_rule.specs.declared.Val.TheVariants.{Known, Away, Public, Secret}
 use Rattle.flow_rule.specs.Values.{join, join_each}
-use Rattle.flow_rule.specs.Rounds.{Point, join_label}
+use Rattle.flow_rule.specs.Iterations.{PointState, join_states}
 use Rattle.flow_rule.proofs.Absorbing.{AbsorbsVal, AbsorbsEach}
 use Rattle.granted_terms.proofs.Forgiven.{Lower}
 
@@ -99,40 +99,40 @@ each_joined (t ∷ ts) (v ∷ vs) (w ∷ ws) p q = (joined t v w p.0 q.0, each_j
 
 -- ---- points
 -- the point that joins a second to a first
-abbrev pub joined_point : Point → Point → Point
-joined_point y x = record { pair = y.pair; label = join_label y.label x.label }
+abbrev pub joined_point : PointState → PointState → PointState
+joined_point y x = record { point = y.point; state = join_states y.state x.state }
 
-pub lower_own : (x : Point) → Lower x x
-lower_own x = record { pair = refl; core = each_own x.label.core; words = each_own x.label.words }
+pub lower_own : (x : PointState) → Lower x x
+lower_own x = record { point = refl; core = each_own x.state.core; words = each_own x.state.words }
 
-pub lower_then : (x y z : Point) → Lower x y → Lower y z → Lower x z
+pub lower_then : (x y z : PointState) → Lower x y → Lower y z → Lower x z
 lower_then x y z p q =
     record {
-      pair = q.pair ∙ p.pair;
-      core = each_then x.label.core y.label.core z.label.core p.core q.core;
-      words = each_then x.label.words y.label.words z.label.words p.words q.words;
+      point = q.point ∙ p.point;
+      core = each_then x.state.core y.state.core z.state.core p.core q.core;
+      words = each_then x.state.words y.state.words z.state.words p.words q.words;
     }
 
-pub lower_first : (y x : Point) → Lower (joined_point y x) y
+pub lower_first : (y x : PointState) → Lower (joined_point y x) y
 lower_first y x =
     record {
-      pair = refl;
-      core = each_first y.label.core x.label.core;
-      words = each_first y.label.words x.label.words;
+      point = refl;
+      core = each_first y.state.core x.state.core;
+      words = each_first y.state.words x.state.words;
     }
 
-pub lower_second : (y x : Point) → y.pair ≡ x.pair → Lower (joined_point y x) x
+pub lower_second : (y x : PointState) → y.point ≡ x.point → Lower (joined_point y x) x
 lower_second y x e =
     record {
-      pair = sym e;
-      core = each_second y.label.core x.label.core;
-      words = each_second y.label.words x.label.words;
+      point = sym e;
+      core = each_second y.state.core x.state.core;
+      words = each_second y.state.words x.state.words;
     }
 
-pub lower_joined : (t y x : Point) → Lower t y → Lower t x → Lower t (joined_point y x)
+pub lower_joined : (t y x : PointState) → Lower t y → Lower t x → Lower t (joined_point y x)
 lower_joined t y x p q =
     record {
-      pair = p.pair;
-      core = each_joined t.label.core y.label.core x.label.core p.core q.core;
-      words = each_joined t.label.words y.label.words x.label.words p.words q.words;
+      point = p.point;
+      core = each_joined t.state.core y.state.core x.state.core p.core q.core;
+      words = each_joined t.state.words y.state.words x.state.words p.words q.words;
     }

@@ -94,7 +94,7 @@ module _ (m : Module) where
     where
       points : (pc : ℕ) (core : List Val) → Lower (start_point other m pc core) (start_point now m pc core)
       points pc core =
-          record { pair = refl; core = each_own core; words = words_lower known_words other.public now.public h }
+          record { point = refl; core = each_own core; words = words_lower known_words other.public now.public h }
 
       body : ℕ
       body = m.text.start + 2 * body_word

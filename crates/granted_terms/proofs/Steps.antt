@@ -19,15 +19,15 @@ use Rattle.arm_balance.specs.Met.{met}
 use Rattle.flow_rule.specs.Terms.{Terms}
 use Rattle.flow_rule.specs.declared.Val.{Val}
 use Rattle.flow_rule.specs.declared.Val.TheVariants.{Known, Away, Public, Secret}
-use Rattle.flow_rule.specs.declared.Label.{Label}
+use Rattle.flow_rule.specs.declared.AbstractState.{AbstractState}
 use Rattle.flow_rule.specs.declared.Reach.{Reach}
 use Rattle.flow_rule.specs.declared.Reason.TheVariants.{SecretBranch, UnknownTarget}
 use Rattle.flow_rule.specs.Values.{is_secret, val}
-use Rattle.flow_rule.specs.Rounds.{Pair, Point, RuleViolation, FlowStep}
+use Rattle.flow_rule.specs.Iterations.{ProgramPoint, PointState, RuleViolation, FlowStep}
 use Rattle.flow_rule.specs.Does.{plan_val, read_val, writes_val, read_reaches, write_reaches, does_val, past_val, lowered_val}
 use Rattle.flow_rule.specs.Violations.{violation_if, reach_violations}
 use Rattle.flow_rule.specs.Going.{goes_by, goes, both, also}
-use Rattle.flow_rule.specs.Returns.{ReturnTurn, calls, return_turn, without_newest, last_is}
+use Rattle.flow_rule.specs.CallStrings.{ReturnTurn, calls, return_turn, pop_call, last_is}
 use Rattle.flow_rule.specs.Steps.{step_plain, step_jump, step_unit, step_insn, step_of}
 use Rattle.flow_rule.specs.Stub.{text_word, has_stub, word_number, is_open, is_shut, shut_violations, shut_if, to_entries, call_entry, entries_of, step_entries, step_stub}
 use Rattle.flow_rule.specs.Verdict.{flow_step}
@@ -38,10 +38,10 @@ use Rattle.flow_rule.proofs.AbsorbingDone.{same_plan, reads_keep, writes_keep, d
 use Rattle.granted_terms.proofs.Forgiven.{EachForgiven, Lower, EachLower, Follows}
 use Rattle.granted_terms.proofs.StepsEnds.{open_below, each_append, closes_follows, exit_follows}
 
-abbrev point : ℕ → List ℕ → Label → Point
-point pc returns label = record { pair = record { addr = pc; returns = returns }; label = label }
+abbrev point_state : ℕ → List ℕ → AbstractState → PointState
+point_state pc call_string state = record { point = record { addr = pc; call_string = call_string }; state = state }
 
--- ---- the return addresses
+-- ---- call strings
 last_same : (t v : Val) (r : List ℕ) → AbsorbsVal t v → last_is t r ≡ true → last_is v r ≡ last_is t r
 last_same (Known a) (Known b) r p e = ap (λ i. last_is (Known i) r) p
 last_same (Known a) _ r p e = absurd p
@@ -53,10 +53,10 @@ turn_same : (insn : Insn) (pc : ℕ) (r : List ℕ) (xs ys : List Val) → Absor
 turn_same (Two Mov Word (Increment n) (Reg d)) pc r xs ys p e = by ((n == 1) && (d == 0)) e
   where
     returned : Bool → ReturnTurn
-    returned last = record { violations = []; returns = without_newest r; stops = not last }
+    returned last = record { violations = []; call_string = pop_call r; stops = not last }
 
     stays : ReturnTurn
-    stays = record { violations = []; returns = r; stops = false }
+    stays = record { violations = []; call_string = r; stops = false }
 
     by : (b : Bool) → (cond b (returned (last_is (nth 0 xs Secret) r)) stays).stops ≡ false →
         cond b (returned (last_is (nth 0 ys Secret) r)) stays ≡ cond b (returned (last_is (nth 0 xs Secret) r)) stays
@@ -67,29 +67,29 @@ turn_same (Two Mov Word (Increment n) (Reg d)) pc r xs ys p e = by ((n == 1) && 
 turn_same (One Call w a) pc r xs ys p e = refl
 turn_same insn pc r xs ys p e = refl
 
-lower_append : (xs xs' ys ys' : List Point) → EachLower xs ys → EachLower xs' ys' → EachLower (xs ++ xs') (ys ++ ys')
+lower_append : (xs xs' ys ys' : List PointState) → EachLower xs ys → EachLower xs' ys' → EachLower (xs ++ xs') (ys ++ ys')
 lower_append [] xs' [] ys' h k = k
 lower_append (x ∷ xs) xs' (y ∷ ys) ys' h k = (h.0, lower_append xs xs' ys ys' h.1 k)
 lower_append [] xs' (y ∷ ys) ys' h k = absurd h
 lower_append (x ∷ xs) xs' [] ys' h k = absurd h
 
 -- ---- what no terms bear on
-abbrev read : Module → List ℕ → Label → List Reach → List Val
+abbrev read : Module → List ℕ → AbstractState → List Reach → List Val
 read m text l xs = map (read_val m text l.words) (read_reaches xs)
 
--- a plain step, over its accesses and what it makes of the return addresses
-abbrev plain : Terms → Module → List ℕ → Insn → ℕ → Label → List Reach → ReturnTurn → FlowStep
+-- a plain step, over its accesses and what it makes of the call string
+abbrev plain : Terms → Module → List ℕ → Insn → ℕ → AbstractState → List Reach → ReturnTurn → FlowStep
 plain terms m text insn pc l xs t =
     let does = does_val insn pc l.core (read m text l xs) in
     also (reach_violations m pc xs ++ t.violations)
-    (goes_unless terms t.stops m pc t.returns does.core (writes_val m l.words (write_reaches xs) does.stored))
+    (goes_unless terms t.stops m pc t.call_string does.core (writes_val m l.words (write_reaches xs) does.stored))
 
 entries_lower : (m : Module) (text : List ℕ) (k : ℕ) (rs : List ℕ) (ts vs ws us : List Val) → AbsorbsEach ts vs →
     AbsorbsEach ws us → EachLower (to_entries m text k rs ts ws) (to_entries m text k rs vs us)
 entries_lower m text zero rs ts vs ws us p d = tt
 entries_lower m text (suc k) rs ts vs ws us p d =
     let a = text_word m text (front_words + k) in (
-      record { pair = refl; core = put_keeps ts vs 0 (Known a) (Known a) p refl; words = d },
+      record { point = refl; core = put_keeps ts vs 0 (Known a) (Known a) p refl; words = d },
       entries_lower m text k rs ts vs ws us p d,
     )
 
@@ -102,13 +102,13 @@ module _ (m : Module) (pc : ℕ) where
   pushed_same _ v h e = absurd cc
 
   -- whether the stub's words are shut is a matter of addresses
-  shut_same : (xs ys : List Point) → EachLower xs ys → shut_violations m pc ys ≡ shut_violations m pc xs
+  shut_same : (xs ys : List PointState) → EachLower xs ys → shut_violations m pc ys ≡ shut_violations m pc xs
   shut_same [] [] h = refl
   shut_same (x ∷ xs) (y ∷ ys) h =
-      ap (λ (i : Pair). shut_here i ++ shut_violations m pc ys) h.0.pair
-      ∙ ap (λ i. shut_here x.pair ++ i) (shut_same xs ys h.1)
+      ap (λ (i : ProgramPoint). shut_here i ++ shut_violations m pc ys) h.0.point
+      ∙ ap (λ i. shut_here x.point ++ i) (shut_same xs ys h.1)
     where
-      shut_here : Pair → List RuleViolation
+      shut_here : ProgramPoint → List RuleViolation
       shut_here i = violation_if (is_shut (word_number m i.addr)) pc UnknownTarget 0
   shut_same [] (y ∷ ys) h = absurd h
   shut_same (x ∷ xs) [] h = absurd h
@@ -136,7 +136,7 @@ module _ (now other : Terms) where
   module _ (m : Module) (pc : ℕ) (r : List ℕ) (ts vs ws us : List Val) (p : AbsorbsEach ts vs) (d : AbsorbsEach ws us) where
     in_follows : (inside : Bool) (to : ℕ) → (goes_in other inside m to pc r ts ws).violations ≡ [] →
         Follows now other (goes_in other inside m to pc r ts ws) (goes_in now inside m to pc r vs us)
-    in_follows true to e = record { forgiven = tt; gives = (record { pair = refl; core = p; words = d }, tt) }
+    in_follows true to e = record { forgiven = tt; gives = (record { point = refl; core = p; words = d }, tt) }
     in_follows false to e = exit_follows now other m pc ts vs ws us p d e
 
     by_follows : (t v : Val) → AbsorbsVal t v → (goes_by other t m pc r ts ws).violations ≡ [] →
@@ -164,17 +164,17 @@ module _ (now other : Terms) where
     goes_on false e = refl
 
   -- ---- an instruction
-  module _ (m : Module) (text : List ℕ) (pc : ℕ) (r : List ℕ) (top low : Label) (p : AbsorbsEach top.core low.core) (d : AbsorbsEach top.words low.words) where
-    plain_follows : (insn : Insn) → (step_plain other m text insn (point pc r top)).violations ≡ [] →
-        Follows now other (step_plain other m text insn (point pc r top)) (step_plain now m text insn (point pc r low))
+  module _ (m : Module) (text : List ℕ) (pc : ℕ) (r : List ℕ) (top low : AbstractState) (p : AbsorbsEach top.core low.core) (d : AbsorbsEach top.words low.words) where
+    plain_follows : (insn : Insn) → (step_plain other m text insn (point_state pc r top)).violations ≡ [] →
+        Follows now other (step_plain other m text insn (point_state pc r top)) (step_plain now m text insn (point_state pc r low))
     plain_follows insn e =
         let xs = plan_val insn pc top.core in
-        let given : Label → List Val = λ l. read m text l xs in
+        let given : AbstractState → List Val = λ l. read m text l xs in
         let t = return_turn insn pc r (given top) in
         let does = does_val insn pc top.core (given top) in
         let rs = reach_violations m pc xs ++ t.violations in
         let words = writes_val m top.words (write_reaches xs) does.stored in
-        let next = goes_unless other t.stops m pc t.returns does.core words in
+        let next = goes_unless other t.stops m pc t.call_string does.core words in
         let calm : rs ≡ [] = none_left rs next.violations e in
         let onward : next.violations ≡ [] = none_right rs next.violations e in
         let reads = reads_keep m text (read_reaches xs) top.words low.words d in
@@ -183,25 +183,25 @@ module _ (now other : Terms) where
         let plans : plan_val insn pc low.core ≡ xs =
         same_plan m pc insn top.core low.core p (none_left (reach_violations m pc xs) t.violations calm) in
         let turn : return_turn insn pc r (given low) ≡ t =
-        turn_same insn pc r (given top) (given low) reads (goes_on m pc t.returns _ _ _ _ done.core_kept stored t.stops onward) in
-        let same : step_plain now m text insn (point pc r low) ≡ plain now m text insn pc low xs t =
+        turn_same insn pc r (given top) (given low) reads (goes_on m pc t.call_string _ _ _ _ done.core_kept stored t.stops onward) in
+        let same : step_plain now m text insn (point_state pc r low) ≡ plain now m text insn pc low xs t =
         ap (λ ys. plain now m text insn pc low ys (return_turn insn pc r (read m text low ys))) plans
         ∙ ap (plain now m text insn pc low xs) turn in
-        subst (λ s. Follows now other (step_plain other m text insn (point pc r top)) s) (sym same)
-        (also_follows rs rs _ _ calm (unless_follows m pc t.returns _ _ _ _ done.core_kept stored t.stops onward))
+        subst (λ s. Follows now other (step_plain other m text insn (point_state pc r top)) s) (sym same)
+        (also_follows rs rs _ _ calm (unless_follows m pc t.call_string _ _ _ _ done.core_kept stored t.stops onward))
 
-    jump_follows : (cn : Condition) (off : ℤ) → (step_jump other m text (Jump cn off) cn (point pc r top)).violations ≡ [] →
-        Follows now other (step_jump other m text (Jump cn off) cn (point pc r top))
-        (step_jump now m text (Jump cn off) cn (point pc r low))
+    jump_follows : (cn : Condition) (off : ℤ) → (step_jump other m text (Jump cn off) cn (point_state pc r top)).violations ≡ [] →
+        Follows now other (step_jump other m text (Jump cn off) cn (point_state pc r top))
+        (step_jump now m text (Jump cn off) cn (point_state pc r low))
     jump_follows cn off e = by (is_always cn) e
       where
-        taken : Terms → Label → FlowStep
+        taken : Terms → AbstractState → FlowStep
         taken terms l = goes terms m pc r (does_val (Jump cn off) pc l.core []).core l.words
 
-        passed : Terms → Label → FlowStep
+        passed : Terms → AbstractState → FlowStep
         passed terms l = goes terms m pc r (past_val (Jump cn off) pc l.core) l.words
 
-        branch : Label → List RuleViolation
+        branch : AbstractState → List RuleViolation
         branch l = violation_if (is_secret (val l.core 2)) pc SecretBranch 0
 
         open_branch : branch top ≡ [] → branch low ≡ []
@@ -227,9 +227,9 @@ module _ (now other : Terms) where
             (both_follow (taken other top) (passed other top) (taken now low) (passed now low)
             (taken_follows (none_left _ _ ways)) (passed_follows (none_right (taken other top).violations _ ways)))
 
-    unit_follows : (name : UnitName) → (step_unit other m (UnitOp name) name (point pc r top)).violations ≡ [] →
-        Follows now other (step_unit other m (UnitOp name) name (point pc r top))
-        (step_unit now m (UnitOp name) name (point pc r low))
+    unit_follows : (name : UnitName) → (step_unit other m (UnitOp name) name (point_state pc r top)).violations ≡ [] →
+        Follows now other (step_unit other m (UnitOp name) name (point_state pc r top))
+        (step_unit now m (UnitOp name) name (point_state pc r low))
     unit_follows Unprotect e = closes_follows now other pc top.core low.core p e
     unit_follows OwnId e =
         goes_follows m pc r _ _ _ _ (put_keeps _ _ 15 Public Public (past_keeps (UnitOp OwnId) pc top.core low.core p) tt) d e
@@ -237,22 +237,22 @@ module _ (now other : Terms) where
         goes_follows m pc r _ _ _ _ (put_keeps _ _ 15 Public Public (past_keeps (UnitOp CallerId) pc top.core low.core p) tt) d e
     unit_follows _ e = absurd cc
 
-    insn_follows : (o : Option Insn) → (step_insn other m text o (point pc r top)).violations ≡ [] →
-        Follows now other (step_insn other m text o (point pc r top)) (step_insn now m text o (point pc r low))
+    insn_follows : (o : Option Insn) → (step_insn other m text o (point_state pc r top)).violations ≡ [] →
+        Follows now other (step_insn other m text o (point_state pc r top)) (step_insn now m text o (point_state pc r low))
     insn_follows None e = absurd cc
     insn_follows (Some Reti) e = absurd cc
     insn_follows (Some (Jump cn off)) e = jump_follows cn off e
     insn_follows (Some (UnitOp name)) e = unit_follows name e
     insn_follows (Some insn) e = plain_follows insn e
 
-    of_follows : (step_of other m text (point pc r top)).violations ≡ [] →
-        Follows now other (step_of other m text (point pc r top)) (step_of now m text (point pc r low))
+    of_follows : (step_of other m text (point_state pc r top)).violations ≡ [] →
+        Follows now other (step_of other m text (point_state pc r top)) (step_of now m text (point_state pc r low))
     unfolding step_of
     of_follows e = insn_follows (met m.text text pc) e
 
     -- ---- in a stub
-    entries_follow : (step_entries m text (point pc r top)).violations ≡ [] →
-        Follows now other (step_entries m text (point pc r top)) (step_entries m text (point pc r low))
+    entries_follow : (step_entries m text (point_state pc r top)).violations ≡ [] →
+        Follows now other (step_entries m text (point_state pc r top)) (step_entries m text (point_state pc r low))
     entries_follow e =
         let ts = past_val (call_entry m) pc top.core in
         let vs = past_val (call_entry m) pc low.core in
@@ -274,7 +274,7 @@ module _ (now other : Terms) where
         (writes_keep m (push sp) top.words low.words stored stored d (refl, tt)) in
         record {
           forgiven = subst (λ i. EachForgiven now other i) (sym none) tt;
-          gives = entries_lower m text (entries_of m text) t.returns _ _ _ _ lowered words;
+          gives = entries_lower m text (entries_of m text) t.call_string _ _ _ _ lowered words;
         }
 
     shut_follows : (open_here : Bool) (s q : FlowStep) → (s.violations ≡ [] → Follows now other s q) →
@@ -290,8 +290,8 @@ module _ (now other : Terms) where
           gives = f.gives;
         }
 
-    stub_follows : (step_stub other m text (point pc r top)).violations ≡ [] →
-        Follows now other (step_stub other m text (point pc r top)) (step_stub now m text (point pc r low))
+    stub_follows : (step_stub other m text (point_state pc r top)).violations ≡ [] →
+        Follows now other (step_stub other m text (point_state pc r top)) (step_stub now m text (point_state pc r low))
     unfolding step_stub
     stub_follows e = by (word_number m pc == call_word) e
       where
@@ -299,30 +299,30 @@ module _ (now other : Terms) where
         here = is_open (word_number m pc)
 
         top_step : FlowStep
-        top_step = step_of other m text (point pc r top)
+        top_step = step_of other m text (point_state pc r top)
 
         low_step : FlowStep
-        low_step = step_of now m text (point pc r low)
+        low_step = step_of now m text (point_state pc r low)
 
         by : (b : Bool) →
-            (cond b (step_entries m text (point pc r top)) (shut_if here m pc top_step)).violations ≡ [] →
-            Follows now other (cond b (step_entries m text (point pc r top)) (shut_if here m pc top_step))
-            (cond b (step_entries m text (point pc r low)) (shut_if here m pc low_step))
+            (cond b (step_entries m text (point_state pc r top)) (shut_if here m pc top_step)).violations ≡ [] →
+            Follows now other (cond b (step_entries m text (point_state pc r top)) (shut_if here m pc top_step))
+            (cond b (step_entries m text (point_state pc r low)) (shut_if here m pc low_step))
         by true e = entries_follow e
         by false e = shut_follows here top_step low_step (λ e. of_follows e) e
 
-  pub step_below : (m : Module) (text : List ℕ) (top low : Point) → Lower top low →
+  pub step_below : (m : Module) (text : List ℕ) (top low : PointState) → Lower top low →
       (flow_step other m text top).violations ≡ [] →
       Follows now other (flow_step other m text top) (flow_step now m text low)
   step_below m text top low l e =
-      subst (λ pair. Follows now other (flow_step other m text top) (flow_step now m text (record { pair = pair; label = low.label })))
-      (sym l.pair) (by (has_stub m text) e)
+      subst (λ point. Follows now other (flow_step other m text top) (flow_step now m text (record { point = point; state = low.state })))
+      (sym l.point) (by (has_stub m text) e)
     where
-      beside : Point
-      beside = record { pair = top.pair; label = low.label }
+      beside : PointState
+      beside = record { point = top.point; state = low.state }
 
       by : (b : Bool) → (cond b (step_stub other m text) (step_of other m text) top).violations ≡ [] →
           Follows now other (cond b (step_stub other m text) (step_of other m text) top)
           (cond b (step_stub now m text) (step_of now m text) beside)
-      by true e = stub_follows m text top.pair.addr top.pair.returns top.label low.label l.core l.words e
-      by false e = of_follows m text top.pair.addr top.pair.returns top.label low.label l.core l.words e
+      by true e = stub_follows m text top.point.addr top.point.call_string top.state low.state l.core l.words e
+      by false e = of_follows m text top.point.addr top.point.call_string top.state low.state l.core l.words e

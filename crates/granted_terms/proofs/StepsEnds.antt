@@ -9,7 +9,7 @@ use Rattle.flow_rule.specs.declared.Val.{Val}
 use Rattle.flow_rule.specs.declared.Val.TheVariants.{Public, Secret}
 use Rattle.flow_rule.specs.declared.Reason.TheVariants.{SecretAtExit, DataAtExit}
 use Rattle.flow_rule.specs.Values.{is_secret, set_each, val}
-use Rattle.flow_rule.specs.Rounds.{RuleViolation}
+use Rattle.flow_rule.specs.Iterations.{RuleViolation}
 use Rattle.flow_rule.specs.Does.{word_no}
 use Rattle.flow_rule.specs.Violations.{violation, violation_if, exit_violations, word_violations}
 use Rattle.flow_rule.specs.Going.{closes, exit_step}

@@ -1,4 +1,4 @@
--- The public words that terms may name: the first words of a module's data, of which a label knows something.
+-- The public words that terms may name: the first words of a module's data, of which a state knows something.
 use Rattle.std.specs.Prelude.{ℕ, Bool, not, ◌&&◌, nat_lt, List, ◌++◌, codes, Option, Some, None, find}
 use Rattle.texts.specs.Hexadecimals.{hex_word}
 use Rattle.mod_layout.specs.declared.Module.{Module}

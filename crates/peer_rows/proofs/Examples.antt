@@ -12,7 +12,7 @@ use Rattle.arm_balance.specs.Met.{met}
 use Rattle.flow_rule.specs.Terms.{no_terms}
 use Rattle.flow_rule.specs.declared.Verdict.TheVariants.{Yes}
 use Rattle.flow_rule.specs.Does.{plan_val, does_val}
-use Rattle.flow_rule.specs.Rounds.{Point, FlowStep, rounds, all_violations}
+use Rattle.flow_rule.specs.Iterations.{PointState, FlowStep, iterations, all_violations}
 use Rattle.flow_rule.specs.Steps.{step_of}
 use Rattle.flow_rule.specs.Stub.{step_stub, has_stub}
 use Rattle.flow_rule.specs.Verdict.{start_under}
@@ -109,15 +109,15 @@ balanced_text = refl
 blind_accepted : VerdictWith (row_module 0x0306) (bytes_of blind) [] Yes
 unfolding bytes_of step_arms met step_of step_stub has_stub plan_val does_val insn_of
 blind_accepted =
-    let step : Point → FlowStep = flow_under no_terms (row_module 0x0306) (bytes_of blind) [] in
-    let start : Point = start_under no_terms (row_module 0x0306) (bytes_of blind) in
-    (rounds step start 3, record { rounds_to = 3; is = refl; stays = refl }, lit≤ tt, refl)
+    let step : PointState → FlowStep = flow_under no_terms (row_module 0x0306) (bytes_of blind) [] in
+    let start : PointState = start_under no_terms (row_module 0x0306) (bytes_of blind) in
+    (iterations step start 3, record { iterations_to = 3; is = refl; stays = refl }, lit≤ tt, refl)
 
 unfoldable pub meet : List Arm
 meet = record { branch = 0x0304; join = 0x0318; cycles = 6 } ∷ []
 
-abbrev balanced_points : ℕ → List Point
-balanced_points n = rounds (flow_under no_terms (row_module 0x0322) (bytes_of balanced) meet) (start_under no_terms (row_module 0x0322) (bytes_of balanced)) n
+abbrev balanced_points : ℕ → List PointState
+balanced_points n = iterations (flow_under no_terms (row_module 0x0322) (bytes_of balanced) meet) (start_under no_terms (row_module 0x0322) (bytes_of balanced)) n
 
 balanced_stays : balanced_points 6 ≡ balanced_points 5
 unfolding bytes_of meet step_arms met step_of step_stub has_stub plan_val does_val insn_of cycles_of
@@ -133,7 +133,7 @@ balanced_few = refl
 
 pub balanced_accepted : VerdictWith (row_module 0x0322) (bytes_of balanced) meet Yes
 balanced_accepted =
-    (balanced_points 5, record { rounds_to = 5; is = refl; stays = balanced_stays }, subst (λ n. n ≤ 16384) (sym balanced_few) (omega arith), balanced_violations)
+    (balanced_points 5, record { iterations_to = 5; is = refl; stays = balanced_stays }, subst (λ n. n ≤ 16384) (sym balanced_few) (omega arith), balanced_violations)
 
 pub blind_peers : BlindPeers
 unfolding all_words

@@ -3,7 +3,7 @@ use Rattle.mod_layout.specs.declared.Module.{Module}
 use Rattle.arm_balance.specs.declared.Arm.{Arm}
 use Rattle.flow_rule.specs.declared.Verdict.TheVariants.{Yes}
 use Rattle.flow_rule.specs.Terms.{Terms}
-use Rattle.flow_rule.specs.Rounds.{Point}
+use Rattle.flow_rule.specs.Iterations.{PointState}
 use Rattle.flow_rule.specs.Verdict.{Decided}
 use Rattle.flow_rule.specs.Arms.{flow_under, VerdictUnder}
 use Rattle.flow_rule.specs.Laws.{EvenUnder, KeptUnder}
@@ -18,7 +18,7 @@ returns-clause-verdict c =
     let m : Module = c.args.module.now in
     let text : List ℕ = c.args.text.now in
     let arms : List Arm = c.args.arms.now.list.items in
-    let start : Point = record { pair = record { addr = c.begins-start.result; returns = [] }; label = c.first-state.result } in
+    let start : PointState = record { point = record { addr = c.begins-start.result; call_string = [] }; state = c.first-state.result } in
     let stub : IsStub m text c.entries-entries.result = record { is = c.entries-entries.ensures.is; high = c.requires.text.high; even = c.requires.text.even_start } in
     IfOk-weaker c.verdict.result (λ v. Decided (flow_under terms m text c.as_slice.result.now) start m.text.start v) (λ v. VerdictUnder terms m text arms v)
     (λ v h. subst (λ s. Decided (flow_under terms m text arms) s m.text.start v)

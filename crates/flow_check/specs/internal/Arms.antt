@@ -9,12 +9,12 @@ use Rattle.insn_decode.specs.Code.{distance, is_always}
 use Rattle.sm_words.specs.Words.{add16}
 use Rattle.mod_layout.specs.declared.Module.{Module}
 use Rattle.arm_balance.specs.declared.Arm.{Arm}
-use Rattle.flow_rule.specs.declared.Label.{Label}
+use Rattle.flow_rule.specs.declared.AbstractState.{AbstractState}
 use Rattle.flow_rule.specs.declared.Reach.{Reach}
 use Rattle.flow_rule.specs.declared.Reason.TheVariants.{Arm as ArmInsn, ArmTime}
 use Rattle.flow_rule.specs.declared.Val.{Val}
 use Rattle.flow_rule.specs.Values.{is_secret}
-use Rattle.flow_rule.specs.Rounds.{Point, RuleViolation, FlowStep}
+use Rattle.flow_rule.specs.Iterations.{PointState, RuleViolation, FlowStep}
 use Rattle.flow_rule.specs.Violations.{violation, violation_if}
 use Rattle.flow_rule.specs.Does.{write_reaches}
 use Rattle.flow_rule.specs.Arms.{Walk, Meets, Stops, written_reg, written_regs, written_words, clobbered_by, step_arm}
@@ -22,8 +22,8 @@ use Rattle.flow_check.specs.declared.arm.Tally.{Tally}
 use Rattle.flow_check.specs.declared.branch.BranchSite.{BranchSite}
 
 -- nothing is told yet
-abbrev pub untold : Label → Tally
-untold l = record { cycles = 0; state = l }
+abbrev pub untold : AbstractState → Tally
+untold s = record { cycles = 0; state = s }
 
 -- what was told, and an instruction: so many cycles, and Secret where it writes with these accesses
 abbrev pub told_insn : ℕ → Insn → Module → List Reach → Tally → Tally
@@ -44,9 +44,9 @@ told_violations branch time number (Ok t) = violation_if (not (t.cycles == time)
 told_violations branch time number (Err addr) = violation branch ArmInsn addr
 
 -- the state behind an arm: as before where it stops
-abbrev pub told_state : Label → Result Tally ℕ → Label
-told_state l (Ok t) = t.state
-told_state l (Err addr) = l
+abbrev pub told_state : AbstractState → Result Tally ℕ → AbstractState
+told_state s (Ok t) = t.state
+told_state s (Err addr) = s
 
 abbrev pub site_from : Option Arm → Insn → ℕ → Option BranchSite
 site_from None insn target = None
@@ -60,7 +60,7 @@ site_by (Some (Jump c off)) arms pc flags =
 site_by insn arms pc flags = None
 
 -- a step by the certificate, where there is one
-abbrev pub step_at : Option BranchSite → (Point → FlowStep) → Module → List ℕ → Point → FlowStep
+abbrev pub step_at : Option BranchSite → (PointState → FlowStep) → Module → List ℕ → PointState → FlowStep
 step_at None step m text x = step x
 step_at (Some c) step m text x = step_arm step m text c.insn c.target c.arm x
 

@@ -5,36 +5,36 @@ use Rattle.std.specs.BTreeMap.{BTreeMap, get_by}
 use Rattle.std.specs.Cmp.Lexicographic.{slice_cmp}
 use Rattle.std.specs.Ordering.{nat_cmp}
 use Rattle.arrayvec.specs.ArrayVec.{ArrayVec}
-use Rattle.flow_rule.specs.declared.Label.{Label}
+use Rattle.flow_rule.specs.declared.AbstractState.{AbstractState}
 use Rattle.flow_rule.specs.Absorbs.{Absorbs}
-use Rattle.flow_rule.specs.Rounds.{Pair, Point, FlowStep, same_pair, join_label, given_by, rounds}
+use Rattle.flow_rule.specs.Iterations.{ProgramPoint, PointState, FlowStep, same_point, join_states, given_by, iterations}
 use Rattle.flow_check.specs.declared.labelling.Node.{Node}
-use Rattle.flow_check.specs.internal.Points.{pair_of, key_of, point_at, points_of}
-use Rattle.flow_check.specs.internal.Weights.{weight_label}
+use Rattle.flow_check.specs.internal.Points.{program_point, key_of, point_at, points_of}
+use Rattle.flow_check.specs.internal.Weights.{weight_state}
 
-abbrev pub same_found : Pair → Option Node → Bool
+abbrev pub same_found : ProgramPoint → Option Node → Bool
 same_found p None = false
-same_found p (Some n) = same_pair (pair_of n.point) p
+same_found p (Some n) = same_point (program_point n.point) p
 
 -- whether the n-th of these is this program point
-abbrev pub same_at : Pair → List Node → ℕ → Bool
+abbrev pub same_at : ProgramPoint → List Node → ℕ → Bool
 same_at p ns n = same_found p (slice_get ns n)
 
 -- none of these is this program point
-abbrev pub Absent : Pair → List Node → Type 0
+abbrev pub Absent : ProgramPoint → List Node → Type 0
 Absent p ns = (k : ℕ) → k < length ns → same_at p ns k ≡ false
 
 -- the place that a map has of a program point
-abbrev pub place_of : BTreeMap (ArrayVec ℕ) ℕ → Pair → Option ℕ
+abbrev pub place_of : BTreeMap (ArrayVec ℕ) ℕ → ProgramPoint → Option ℕ
 place_of places p = get_by (λ k. slice_cmp nat_cmp (key_of p) k.items) places
 
 -- it has that of each of these
 abbrev pub Placed : List Node → BTreeMap (ArrayVec ℕ) ℕ → Type 0
-Placed ns places = (p : Pair) (i : ℕ) → same_at p ns i ≡ true → place_of places p ≡ Some i
+Placed ns places = (p : ProgramPoint) (i : ℕ) → same_at p ns i ≡ true → place_of places p ≡ Some i
 
 -- a point to whose state another was joined
-abbrev pub joined_point : Point → Label → Point
-joined_point x l = record { pair = x.pair; label = join_label x.label l }
+abbrev pub joined_point : PointState → AbstractState → PointState
+joined_point x s = record { point = x.point; state = join_states x.state s }
 
 abbrev pub is_marked : Option Node → Bool
 is_marked None = false
@@ -57,38 +57,38 @@ abbrev pub Fewer : List Node → List Node → Type 0
 Fewer old new = (i : ℕ) → mark_at new i ≡ true → mark_at old i ≡ true
 
 -- those that changed
-abbrev pub changed_points : List Node → List Point
+abbrev pub changed_points : List Node → List PointState
 changed_points [] = []
 changed_points (n ∷ ns) = cond n.changed (point_at n.point ∷ changed_points ns) (changed_points ns)
 
 -- joining this point changes nothing
-abbrev pub Subsumed : Point → List Point → Type 0
+abbrev pub Subsumed : PointState → List PointState → Type 0
 Subsumed x [] = ⊥
-Subsumed x (y ∷ ys) = cond (same_pair y.pair x.pair) (Absorbs y.label x.label) (Subsumed x ys)
+Subsumed x (y ∷ ys) = cond (same_point y.point x.point) (Absorbs y.state x.state) (Subsumed x ys)
 
-abbrev pub AllSubsumed : List Point → List Point → Type 0
+abbrev pub AllSubsumed : List PointState → List PointState → Type 0
 AllSubsumed [] ys = Unit {0}
 AllSubsumed (x ∷ xs) ys = Subsumed x ys × AllSubsumed xs ys
 
 -- what a program point that did not change gives is subsumed by ys
-abbrev pub Clean : (Point → FlowStep) → List Node → List Point → Type 0
+abbrev pub Clean : (PointState → FlowStep) → List Node → List PointState → Type 0
 Clean step [] ys = Unit {0}
 Clean step (n ∷ ns) ys = (n.changed ≡ false → AllSubsumed (given_by (step (point_at n.point))) ys) × Clean step ns ys
 
 -- the points that did not change are as before, the states of those that did have risen, and new ones changed
-abbrev pub KeptPoints : List Point → List Node → Type 0
+abbrev pub KeptPoints : List PointState → List Node → Type 0
 KeptPoints [] [] = Unit {0}
 KeptPoints [] (n ∷ ns) = (n.changed ≡ true) × KeptPoints [] ns
 KeptPoints (x ∷ xs) [] = ⊥
 KeptPoints (x ∷ xs) (n ∷ ns) =
-    (n.changed ≡ false → point_at n.point ≡ x) × (n.changed ≡ true → weight_label x.label < weight_label n.point.state) × KeptPoints xs ns
+    (n.changed ≡ false → point_at n.point ≡ x) × (n.changed ≡ true → weight_state x.state < weight_state n.point.state) × KeptPoints xs ns
 
 -- what was kept until one labelling is kept until the next
 abbrev pub StillKept : List Node → List Node → Type 0
-StillKept old new = (xs : List Point) → KeptPoints xs old → KeptPoints xs new
+StillKept old new = (xs : List PointState) → KeptPoints xs old → KeptPoints xs new
 
 -- after some iterations
-pub record Reached (step : Point → FlowStep) (start : Point) (ns : List Node) : Type 0 where
+pub record Reached (step : PointState → FlowStep) (start : PointState) (ns : List Node) : Type 0 where
   pub turns : ℕ
-  pub is : points_of ns ≡ rounds step start turns
+  pub is : points_of ns ≡ iterations step start turns
   pub clean : Clean step ns (points_of ns)

@@ -1,6 +1,6 @@
 -- The rule of flow over a program.
 use Rattle.std.specs.Prelude.{ℕ}
-use Rattle.flow_rule.specs.Rounds.{Point, FlowStep}
+use Rattle.flow_rule.specs.Iterations.{PointState, FlowStep}
 use Rattle.flow_rule.specs.Verdict.{flow_step}
 use Rattle.flow_rule.specs.Arms.{Walk, walk, first_walk, second_walk, flow_under, step_arm}
 use Rattle.flow_check.specs.declared.program.Program.{Program}
@@ -8,24 +8,24 @@ use Rattle.flow_check.specs.declared.branch.BranchSite.{BranchSite}
 use Rattle.flow_check.specs.internal.Terms.{terms_in}
 
 -- the step of a point
-abbrev pub flow : Program → Point → FlowStep
+abbrev pub flow : Program → PointState → FlowStep
 flow p = flow_under (terms_in p) p.module.now p.text.now p.arms.now
 
 -- the same but for branches with a certificate
-abbrev pub base_flow : Program → Point → FlowStep
+abbrev pub base_flow : Program → PointState → FlowStep
 base_flow p = flow_step (terms_in p) p.module.now p.text.now
 
 -- the step of a branch by its certificate
-abbrev pub flow_at : Program → BranchSite → Point → FlowStep
+abbrev pub flow_at : Program → BranchSite → PointState → FlowStep
 flow_at p c x = step_arm (base_flow p) p.module.now p.text.now c.insn c.target c.arm x
 
 -- the walk from a point to the join, in so many steps
-abbrev pub arm_walk : Program → ℕ → ℕ → Point → Walk
+abbrev pub arm_walk : Program → ℕ → ℕ → PointState → Walk
 arm_walk p join steps = walk (base_flow p) p.module.now p.text.now join steps
 
 -- along the arm of a branch that the jump does not take, and along the one that it takes
-abbrev pub untaken_walk : Program → BranchSite → Point → Walk
+abbrev pub untaken_walk : Program → BranchSite → PointState → Walk
 untaken_walk p c = first_walk (base_flow p) p.module.now p.text.now c.insn c.arm
 
-abbrev pub taken_walk : Program → BranchSite → Point → Walk
+abbrev pub taken_walk : Program → BranchSite → PointState → Walk
 taken_walk p c = second_walk (base_flow p) p.module.now p.text.now c.insn c.target c.arm

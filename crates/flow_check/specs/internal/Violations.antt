@@ -1,7 +1,7 @@
 -- The order of violations.
 use Rattle.std.specs.Prelude.{ℕ, zero, suc, ◌+◌, ◌==◌, ◌&&◌, ◌||◌, nat_lt, Bool, true, false}
 use Rattle.std.specs.Prelude.{List, [], ◌∷◌, ◌++◌, Option, Some, None}
-use Rattle.flow_rule.specs.Rounds.{RuleViolation}
+use Rattle.flow_rule.specs.Iterations.{RuleViolation}
 use Rattle.mod_layout.specs.declared.Module.{Module}
 use Rattle.flow_rule.specs.declared.Reason.TheVariants.{UnknownTarget}
 use Rattle.flow_rule.specs.declared.Verdict.{Verdict}

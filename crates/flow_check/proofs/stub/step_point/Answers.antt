@@ -1,5 +1,5 @@
 use Rattle.std.proofs.Common.{◌∙◌, ◌++◌, ap, subst}
-use Rattle.flow_rule.specs.Rounds.{FlowStep}
+use Rattle.flow_rule.specs.Iterations.{FlowStep}
 use Rattle.flow_check.specs.internal.Violations.{noted}
 use Rattle.flow_check.specs.internal.Points.{addrs_of, point_at, point_of}
 use Rattle.flow_check.specs.internal.Programs.{base_flow}

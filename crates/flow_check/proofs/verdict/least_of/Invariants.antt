@@ -1,5 +1,5 @@
 use Rattle.std.proofs.Common.{◌≡◌, drop, None}
-use Rattle.flow_rule.specs.Rounds.{all_violations}
+use Rattle.flow_rule.specs.Iterations.{all_violations}
 use Rattle.flow_check.specs.internal.Points.{points_of}
 use Rattle.flow_check.specs.internal.Programs.{flow}
 use Rattle.flow_check.specs.internal.Violations.{noted}

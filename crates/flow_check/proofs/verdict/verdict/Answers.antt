@@ -1,6 +1,6 @@
 use Rattle.std.proofs.Common.{rules, arith, ◌≡◌, ◌<◌, [], ℕ, length, ap, ◌∙◌}
-use Rattle.flow_rule.specs.declared.Label.{Label}
-use Rattle.flow_rule.specs.Rounds.{Point}
+use Rattle.flow_rule.specs.declared.AbstractState.{AbstractState}
+use Rattle.flow_rule.specs.Iterations.{PointState}
 use Rattle.flow_check.specs.internal.Points.{fronts_of}
 use Rattle.flow_check.specs.internal.Programs.{flow}
 use Rattle.flow_check.proofs.Iterating.{reached_more}
@@ -9,8 +9,8 @@ use Rattle.flow_check.proofs.Verdicts.{rests_there, decided_many}
 use Rattle.flow_check.proofs.Weights.{ends}
 use Rattle.flow_check.proofs.verdict.verdict.Goals as goal
 
-abbrev start_at : ℕ → Label → Point
-start_at a l = record { pair = record { addr = a; returns = [] }; label = l }
+abbrev start_at : ℕ → AbstractState → PointState
+start_at a l = record { point = record { addr = a; call_string = [] }; state = l }
 
 pub returns-then-is_empty : goal.returns-then-is_empty
 returns-then-is_empty c =

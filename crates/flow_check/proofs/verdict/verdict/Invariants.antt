@@ -8,7 +8,7 @@ use Rattle.flow_check.proofs.verdict.verdict.Given as goal
 
 abbrev pub invariant-loop-front : goal.invariant-loop-front
 invariant-loop-front l =
-    (length l.all ≤ 16384) × Reached (flow l.program) record { pair = record { addr = l.start; returns = [] }; label = l.first } l.all × AreSummaries l.program l.summaries.list.items
+    (length l.all ≤ 16384) × Reached (flow l.program) record { point = record { addr = l.start; call_string = [] }; state = l.first } l.all × AreSummaries l.program l.summaries.list.items
 
 abbrev pub decreases-loop-front : goal.decreases-loop-front
 decreases-loop-front l = 2 * (8929280 - weight_of (points_of l.all)) + has_mark l.all

@@ -1,5 +1,5 @@
 use Rattle.std.proofs.Common.{◌≡◌, drop}
-use Rattle.flow_rule.specs.Rounds.{join_all, given_points}
+use Rattle.flow_rule.specs.Iterations.{join_all, given_points}
 use Rattle.flow_check.specs.internal.Points.{points_of, fronts_of}
 use Rattle.flow_check.specs.internal.Labellings.{KeptPoints}
 use Rattle.flow_check.specs.internal.Programs.{flow}

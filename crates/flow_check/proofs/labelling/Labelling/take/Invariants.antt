@@ -1,5 +1,5 @@
 use Rattle.std.proofs.Common.{◌≡◌, drop}
-use Rattle.flow_rule.specs.Rounds.{join_all}
+use Rattle.flow_rule.specs.Iterations.{join_all}
 use Rattle.flow_check.specs.internal.Points.{list_of, points_at, points_of}
 use Rattle.flow_check.specs.internal.Labellings.{StillKept}
 use Rattle.flow_check.proofs.labelling.Labelling.take.Given as goal

@@ -7,14 +7,14 @@ pub returns-in-Some-answer-clause-summaries : goal.returns-in-Some-answer-clause
 returns-in-Some-answer-clause-summaries c = c.in_ok-place.ensures.summaries c.args.program.now c.learned-summary.ensures c.requires.summaries
 
 pub returns-in-Some-answer-clause-open : goal.returns-in-Some-answer-clause-open
-returns-in-Some-answer-clause-open c = λ opened returns.
-    subst (λ l. OpensTo c.args.program.now c.args.site.now (branch_from c.args.pc returns l) c.answer.new.state) (c.in_default.ensures.silent refl)
-    (c.answer.ensures.open (c.in-Some-answer.is ∙ ap Some opened) c.args.program.now returns (returns-in-Some-answer-clause-summaries c))
+returns-in-Some-answer-clause-open c = λ opened call_string.
+    subst (λ l. OpensTo c.args.program.now c.args.site.now (branch_from c.args.pc call_string l) c.answer.new.state) (c.in_default.ensures.silent refl)
+    (c.answer.ensures.open (c.in-Some-answer.is ∙ ap Some opened) c.args.program.now call_string (returns-in-Some-answer-clause-summaries c))
 
 pub returns-in-Some-answer-clause-shut : goal.returns-in-Some-answer-clause-shut
-returns-in-Some-answer-clause-shut c = λ shut returns.
-    subst (λ l. (flow_at c.args.program.now c.args.site.now (branch_from c.args.pc returns l)).violations ≢ []) (c.in_default.ensures.silent refl)
-    (c.answer.ensures.shut (c.in-Some-answer.is ∙ ap Some shut) c.args.program.now returns (returns-in-Some-answer-clause-summaries c))
+returns-in-Some-answer-clause-shut c = λ shut call_string.
+    subst (λ l. (flow_at c.args.program.now c.args.site.now (branch_from c.args.pc call_string l)).violations ≢ []) (c.in_default.ensures.silent refl)
+    (c.answer.ensures.shut (c.in-Some-answer.is ∙ ap Some shut) c.args.program.now call_string (returns-in-Some-answer-clause-summaries c))
 
 pub returns-clause-summaries : goal.returns-clause-summaries
 returns-clause-summaries c = c.in_ok-place.ensures.summaries c.args.program.now c.learned-summary.ensures c.requires.summaries

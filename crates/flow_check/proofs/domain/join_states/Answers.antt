@@ -1,6 +1,6 @@
 use Rattle.std.proofs.Common.{arith, inl, inr}
 use Rattle.flow_check.proofs.Weights.{joined_rises}
-use Rattle.flow_check.proofs.domain.join_label.Goals as goal
+use Rattle.flow_check.proofs.domain.join_states.Goals as goal
 
 pub returns-then-core-clause-rises : goal.returns-then-core-clause-rises
 returns-then-core-clause-rises c = λ _.
