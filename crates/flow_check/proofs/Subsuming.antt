@@ -1,7 +1,5 @@
 -- What one walk along the arms of a branch says of other states.
-use Rattle.std.proofs.Common.{◌≡◌, ◌≢◌, ℕ, zero, suc, set, get_or, take, drop, ◌<◌, ◌≤◌, List, [], ◌∷◌, ◌++◌, length, refl, sym, ap, ◌∙◌, subst, not, false, is_some, arith, Option, Some, None}
-use Rattle.std.specs.List.{slice_get}
-use Rattle.std.proofs.lemmas.Option.{get_or_from_slice_get, slice_get_within}
+use Rattle.std.proofs.Common.{◌≡◌, ◌≢◌, ℕ, zero, suc, set, get_or, take, drop, ◌<◌, ◌≤◌, List, [], ◌∷◌, ◌++◌, length, refl, sym, ap, ◌∙◌, subst, not, false, is_some, arith, Option, None}
 use Rattle.std.proofs.lemmas.List.Elements.{All-push, All-set}
 use Rattle.mod_layout.specs.declared.Module.{Module}
 use Rattle.mod_layout.specs.Table.{holds}
@@ -78,10 +76,6 @@ kept_push p ss ts s e h all = subst (AreSummaries p) (sym e) (All-push (IsSummar
 
 pub kept_set : (p : Program) (ss ts : List Summary) (i : ℕ) (s : Summary) → ts ≡ set ss i s → IsSummary p s → AreSummaries p ss → AreSummaries p ts
 kept_set p ss ts i s e h all = subst (AreSummaries p) (sym e) (All-set (IsSummary p) ss i s h all)
-
--- a summary that is kept
-pub kept_there : (p : Program) (ss : List Summary) (i : ℕ) (s : Summary) → slice_get ss i ≡ Some s → AreSummaries p ss → IsSummary p s
-kept_there p ss i s e all = subst (IsSummary p) (get_or_from_slice_get ss i s s e) (all i s (slice_get_within ss i s e))
 
 -- what a walk told
 pub walked_open : (p : Program) (c : BranchSite) (pc : ℕ) (r : CallString) (l told0 told : AbstractState) (least : Option Violation) → list_of r ≡ [] → told0 ≡ blank_state →

@@ -1,23 +1,22 @@
 -- The least of the violations.
 use Rattle.std.proofs.Common.{◌==◌, ◌≡◌, ℕ, zero, suc, ◌+◌, ◌-◌, ◌<◌, ◌≤◌, List, [], ◌∷◌, ◌++◌, length, refl, sym, ap, ◌∙◌, arith, true, false, cond, Option, append_assoc}
 use Rattle.std.specs.Prelude.{ℤ, Some}
-use Rattle.sm_words.specs.Words.{nth, word_at}
+use Rattle.sm_words.specs.Words.{nth}
 use Rattle.insn_decode.specs.declared.insn.Condition.{Condition}
 use Rattle.insn_decode.specs.declared.insn.Insn.{Insn}
-use Rattle.insn_decode.specs.declared.insn.Insn.TheVariants.{Jump, Reti}
+use Rattle.insn_decode.specs.declared.insn.Insn.TheVariants.{Jump}
 use Rattle.insn_decode.specs.Code.{is_always}
 use Rattle.mod_layout.specs.declared.Module.{Module}
 use Rattle.flow_rule.specs.Terms.{Terms}
 use Rattle.flow_rule.specs.declared.Val.{Val}
 use Rattle.flow_rule.specs.declared.Reach.{Reach}
-use Rattle.flow_rule.specs.declared.Reason.TheVariants.{SecretAtExit, DataAtExit, Illegal, UnknownTarget, SecretBranch}
+use Rattle.flow_rule.specs.declared.Reason.TheVariants.{SecretAtExit, DataAtExit, UnknownTarget, SecretBranch}
 use Rattle.flow_rule.specs.declared.Val.TheVariants.{Secret}
 use Rattle.flow_rule.specs.Iterations.{RuleViolation, FlowStep, PointState}
 use Rattle.flow_rule.specs.Values.{is_secret, val}
-use Rattle.arm_balance.specs.Met.{text_byte}
 use Rattle.flow_rule.specs.Does.{word_no, past_val, does_val, writes_val}
 use Rattle.flow_rule.specs.Violations.{exit_violations, word_violations, reach_violations, reach_violations_by, violation, violation_if}
-use Rattle.flow_rule.specs.Going.{goes, also, both, fails}
+use Rattle.flow_rule.specs.Going.{goes, also, both}
 use Rattle.flow_rule.specs.Steps.{step_jump, step_insn, step_of}
 use Rattle.flow_rule.specs.Stub.{shut_violations, shut_if, is_shut, is_open, word_number, step_stub, step_entries, to_entries, text_word}
 use Rattle.flow_check.specs.declared.violation.Violation.{Violation}
@@ -94,9 +93,6 @@ jump_other terms m text insn cn x e = ap (λ b. cond b (taken_to terms m insn x)
 
 pub jump_same : (terms : Terms) (m : Module) (text : List ℕ) (insn : Insn) (cn : Condition) (off : ℤ) (x : PointState) → insn ≡ Jump cn off → step_jump terms m text insn cn x ≡ step_insn terms m text (Some insn) x
 jump_same terms m text insn cn off x e = ap (λ i. step_jump terms m text i cn x) e ∙ sym (ap (λ i. step_insn terms m text (Some i) x) e)
-
-pub reti_same : (terms : Terms) (m : Module) (text : List ℕ) (insn : Insn) (x : PointState) → insn ≡ Reti → fails x.point.addr Illegal (word_at (text_byte m.text text) x.point.addr) ≡ step_insn terms m text (Some insn) x
-reti_same terms m text insn x e = sym (ap (λ i. step_insn terms m text (Some i) x) e)
 
 -- ---- steps into the closed words of a stub
 shut_same : (m : Module) (pc : ℕ) (gs : List PointState) → shut_violations m pc gs ≡ shut_at m pc (addrs_of gs)

@@ -1,6 +1,7 @@
 //! Secret branches whose arms meet again, at a join (a merge point), in equal times.
 
 ghost use Rattle.std.specs.Prelude.{◌≡◌, ◌==◌, [], true, find};
+ghost use Rattle.std.specs.Option.{option_copied};
 ghost use Rattle.sm_words.specs.Words.{kept, add16};
 ghost use Rattle.arm_balance.specs.Met.{met};
 ghost use Rattle.flow_rule.specs.Values.{val};
@@ -65,15 +66,10 @@ pub fn is_same(one: &BranchSite, other: &BranchSite) -> bool
 }
 
 /// The certificate of a branch.
-fn find_arm(arms: &[Arm], branch: u16) -> Option<Arm>
-    ensures { result ≡ find (λ arm. arm.branch == branch) arms.now }
+fn find_arm(arms: &[Arm], branch: u16) -> Option<&Arm>
+    ensures { option_copied result ≡ find (λ arm. arm.branch == branch) arms.now }
 {
-    for arm in arms {
-        if arm.branch == branch {
-            return Some(*arm);
-        }
-    }
-    None
+    arms.iter().find(|arm| arm.branch == branch)
 }
 
 /// The site at `pc`, where its instruction is a secret branch with a certificate.
@@ -92,7 +88,7 @@ fn site_at(insn: Option<Insn>, arms: &[Arm], pc: u16, flags: Val) -> Option<Bran
                 Some(arm) => Some(BranchSite {
                     insn,
                     target: target(pc, offset),
-                    arm,
+                    arm: *arm,
                 }),
                 None => None,
             }

@@ -12,7 +12,7 @@ ghost use Rattle.std.specs.List.Sorted.{IsNonDecreasing};
 
 use crate::call_string::CallString;
 use crate::domain::join_states;
-use crate::point::{Key, PointState};
+use crate::point::{Key, Point};
 use flow_rule::{AbstractState, Val};
 use std::alloc::{AllocError, Global};
 use std::collections::BTreeMap;
@@ -21,7 +21,7 @@ use std::marker::Model;
 /// A program point with its state, and whether that changed in the last iteration.
 #[derive(Clone, Copy)]
 pub struct Node {
-    pub point: PointState,
+    pub point: Point,
     pub changed: bool,
 }
 
@@ -29,15 +29,13 @@ pub struct Node {
 #[derive(Clone, Copy)]
 pub struct Changed {
     pub place: usize,
-    pub point: PointState,
+    pub point: Point,
 }
 
 /// The program points with their states.
 #[derive(Drop)]
 pub struct Labelling {
     nodes: Vec<Node>,
-    /// Where what is known of each one's arms is.
-    summaries: Vec<Option<usize>>,
     /// The place of each program point.
     places: BTreeMap<Key, usize>,
     /// The places of those that changed.
@@ -58,7 +56,7 @@ impl Model for Labelling {
 }
 
 /// Whether one of these is this program point.
-fn same_at(nodes: &[Node], point: &PointState, i: usize) -> bool
+fn same_at(nodes: &[Node], point: &Point, i: usize) -> bool
     ensures { result ≡ same_at (program_point point.now) nodes.now i }
 {
     match nodes.get(i) {
@@ -68,18 +66,14 @@ fn same_at(nodes: &[Node], point: &PointState, i: usize) -> bool
 }
 
 /// The place that a map has of a program point.
-fn place(places: &BTreeMap<Key, usize>, point: &PointState) -> Option<usize>
+fn place(places: &BTreeMap<Key, usize>, point: &Point) -> Option<usize>
     ensures { result ≡ place_of places.now (program_point point.now) }
 {
     places.get(&point.key()).copied()
 }
 
 /// Notes the place of a program point that has none.
-fn note_place(
-    places: &mut BTreeMap<Key, usize>,
-    point: &PointState,
-    at: usize,
-) -> Result<(), AllocError>
+fn note_place(places: &mut BTreeMap<Key, usize>, point: &Point, at: usize) -> Result<(), AllocError>
     ensures placed { (ns : List Node) → Absent (program_point point.now) ns → Placed ns places.old → Placed ns places.new }
     ensures noted { OnOk result (place_of places.new (program_point point.now) ≡ Some at) }
 {
@@ -175,11 +169,10 @@ impl Labelling {
     {
         let mut all = Labelling {
             nodes: Vec::new(alloc),
-            summaries: Vec::new(alloc),
             places: BTreeMap::new(alloc),
             worklist: Vec::new(alloc),
         };
-        let point = PointState {
+        let point = Point {
             addr: start,
             call_string: CallString::new(),
             state: *first,
@@ -197,7 +190,7 @@ impl Labelling {
 
     /// The point there.
     #[tactic(auto, using(crate::proofs::Taking::points_drop))]
-    pub fn point(&self, i: usize) -> PointState
+    pub fn point(&self, i: usize) -> Point
         requires { i < length self.now }
         ensures { points_of (drop i self.now) ≡ point_at result ∷ points_of (drop (i + 1) self.now) }
     {
@@ -221,7 +214,7 @@ impl Labelling {
 
     /// Joins a point's state to that of its place.
     #[tactic(auto, using(crate::proofs::Placing::placed_same))]
-    fn rise(&mut self, at: usize, point: &PointState) -> Result<(), AllocError>
+    fn rise(&mut self, at: usize, point: &Point) -> Result<(), AllocError>
         requires { same_at (program_point point.now) self.old at ≡ true }
         ensures joined { points_of self.new ≡ join_in (point_at point.now) (points_of self.old) }
         ensures kept { IfOk result (λ _. StillKept self.old self.new) }
@@ -231,7 +224,7 @@ impl Labelling {
 
     /// One program point more.
     #[tactic(auto, using(crate::proofs::Taking::kept_new, crate::proofs::Labellings::joins_new, crate::proofs::Marked::listed_push, crate::proofs::Marked::listed_more, crate::proofs::Placing::placed_push))]
-    fn add(&mut self, point: &PointState) -> Result<(), AllocError>
+    fn add(&mut self, point: &Point) -> Result<(), AllocError>
         requires { (k : ℕ) → k < length self.old → same_at (program_point point.now) self.old k ≡ false }
         ensures added { IfOk result (λ _. self.new ≡ self.old ++ record { point = point.now; changed = true } ∷ []) }
         ensures joined { IfOk result (λ _. points_of self.new ≡ join_in (point_at point.now) (points_of self.old)) }
@@ -239,7 +232,6 @@ impl Labelling {
     {
         let at = self.nodes.len();
         self.worklist.push(at)?;
-        self.summaries.push(None)?;
         note_place(&mut self.places, point, at)?;
         self.nodes.push(Node {
             point: *point,
@@ -250,7 +242,7 @@ impl Labelling {
 
     /// The place of a program point, if it is there: where memory ran out, the map has one more.
     #[tactic(auto, using(crate::proofs::Placing::absent_none, crate::proofs::Placing::absent_other))]
-    fn find(&self, point: &PointState) -> Option<usize>
+    fn find(&self, point: &Point) -> Option<usize>
         ensures there { IfSome result (λ i. same_at (program_point point.now) self.now i ≡ true) }
         ensures absent { result ≡ None → Absent (program_point point.now) self.now }
     {
@@ -261,30 +253,13 @@ impl Labelling {
     }
 
     /// Joins a point's state to that of its place.
-    fn join_in(&mut self, point: &PointState) -> Result<(), AllocError>
+    fn join_in(&mut self, point: &Point) -> Result<(), AllocError>
         ensures joined { IfOk result (λ _. points_of self.new ≡ join_in (point_at point.now) (points_of self.old)) }
         ensures kept { IfOk result (λ _. StillKept self.old self.new) }
     {
         match self.find(point) {
             Some(at) => self.rise(at, point),
             None => self.add(point),
-        }
-    }
-
-    /// Where what is known of a program point's arms is.
-    pub fn summary(&self, at: usize) -> Option<usize> {
-        match self.summaries.get(at) {
-            Some(summary) => *summary,
-            None => None,
-        }
-    }
-
-    /// Says where what is known of a program point's arms is.
-    pub fn set_summary(&mut self, at: usize, summary: Option<usize>)
-        ensures { self.new ≡ self.old }
-    {
-        if let Some(found) = self.summaries.get_mut(at) {
-            *found = summary;
         }
     }
 
@@ -303,7 +278,7 @@ impl Labelling {
         ensures kept { IfOk result (λ _. StillKept self.old self.new) }
     {
         state.core[0] = Val::Known(to);
-        let point = PointState {
+        let point = Point {
             addr: to,
             call_string: *call_string,
             state: *state,

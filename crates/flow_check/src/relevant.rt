@@ -2,7 +2,6 @@
 //! alone: what it says is tried by a walk before anything rests on it.
 
 use crate::accesses::{reads_destination, writes_destination};
-use crate::domain::is_secret;
 use crate::memory::word_number;
 use flow_rule::{AbstractState, Reach, Val};
 use insn_decode::{Insn, OneOp, Operand, TwoOp};
@@ -127,10 +126,7 @@ impl Relevance {
 
     /// What a value is made of.
     fn get(&self, value: usize) -> Origins {
-        match self.of.get(value) {
-            Some(set) => *set,
-            None => Origins::NONE,
-        }
+        self.of.get(value).copied().unwrap_or(Origins::NONE)
     }
 
     /// Says what a value is made of.
@@ -149,10 +145,7 @@ impl Relevance {
 
     /// What the value there is made of.
     fn at(&self, place: Option<usize>) -> Origins {
-        match place {
-            Some(value) => self.get(value),
-            None => Origins::NONE,
-        }
+        place.map_or(Origins::NONE, |value| self.get(value))
     }
 
     /// Writes a value made of these; a byte of a word leaves the other.
@@ -248,20 +241,4 @@ impl Relevance {
         }
         top
     }
-}
-
-/// A state that subsumes this one and is Secret where another is.
-pub fn like(near: &AbstractState, state: &AbstractState) -> AbstractState {
-    let mut top = *state;
-    for n in 0..16 {
-        if is_secret(near.core[n]) {
-            top.core[n] = Val::Secret;
-        }
-    }
-    for n in 0..256 {
-        if is_secret(near.words[n]) {
-            top.words[n] = Val::Secret;
-        }
-    }
-    top
 }

@@ -3,7 +3,7 @@
 //! states with more.
 
 ghost use Rattle.std.specs.Prelude.{◌≡◌, ◌≢◌, ◌≤◌, ◌<◌, ◌%◌, ℕ, List, IfSome, IfOk, Some};
-ghost use Rattle.std.specs.Prelude.{None, true, slice_get, All, []};
+ghost use Rattle.std.specs.Prelude.{None, true, []};
 ghost use Rattle.flow_check.specs.declared.program.Program.{Program};
 ghost use Rattle.flow_check.specs.internal.Points.{addrs_of, point_at};
 ghost use Rattle.flow_check.specs.internal.Programs.{flow, flow_at};
@@ -19,15 +19,13 @@ use crate::call_string::CallString;
 use crate::domain::{blank_state, overlay_state, subsumes};
 use crate::point::Point;
 use crate::program::Program;
-use crate::relevant::{Relevance, like};
+use crate::relevant::Relevance;
 use crate::step::Stepped;
 use crate::stub::{step_base, step_point};
 use crate::violation::{Violation, note};
 use flow_rule::{AbstractState, Reason, arms_rest};
 use std::alloc::{AllocError, Global};
-
-/// How many numbers branches have.
-const NUMBERS: usize = 256;
+use std::collections::BTreeMap;
 
 /// What the arms of a branch come to.
 #[derive(Clone, Copy)]
@@ -54,12 +52,12 @@ pub struct Summary {
     pub answer: Answer,
 }
 
-/// The summaries that were walked.
+/// The summaries of the program points that are branches.
 #[derive(Drop)]
 pub struct Summaries {
     list: Vec<Summary>,
-    /// Where the newest summary of the branches with this number is.
-    newest: [usize; 256],
+    /// Where the summary of the program point in each place of the labelling is.
+    places: BTreeMap<usize, usize>,
 }
 
 /// Walks the arms of a branch under a state.
@@ -95,16 +93,16 @@ fn walked(
     }
 }
 
-/// Walks the arms of a branch under its state, and writes what they write where there is no violation.
-fn applied(program: &Program<'_>, site: &BranchSite, pc: u16, state: &mut AbstractState) -> Outcome
-    ensures open { result ≡ Outcome.Open → (call_string : List ℕ) →
-        OpensTo program.now site.now (branch_from pc call_string state.old) state.new }
-    ensures shut { result ≡ Outcome.Shut → (call_string : List ℕ) →
-        (flow_at program.now site.now (branch_from pc call_string state.old)).violations ≢ [] }
+/// What a walk under this state came to; where it is open, its arms then write.
+fn settle(walked: &Summary, state: &mut AbstractState) -> Outcome
+    requires own { walked.now.state ≡ state.old }
+    ensures open { result ≡ Outcome.Open → (p : Program) (call_string : List ℕ) → IsSummary p walked.now →
+        OpensTo p walked.now.site (branch_from walked.now.branch call_string state.old) state.new }
+    ensures shut { result ≡ Outcome.Shut → (p : Program) (call_string : List ℕ) → IsSummary p walked.now →
+        (flow_at p walked.now.site (branch_from walked.now.branch call_string state.old)).violations ≢ [] }
 {
     arms_rest();
-    let mut none = Relevance::new(false);
-    match walked(program, site, pc, state, &mut none).answer {
+    match walked.answer {
         Answer::Open(told) => {
             overlay_state(state, &told);
             Outcome::Open
@@ -127,44 +125,20 @@ fn put(list: &mut Vec<Summary>, place: usize, summary: Summary) -> Result<(), Al
     Ok(())
 }
 
-/// The number of a branch, where its newest summary is looked for.
-fn number(branch: u16) -> usize
-    ensures { result < 256 }
-{
-    usize::from(branch / 2) % NUMBERS
-}
-
 /// Whether a summary is open.
 fn is_open(summary: &Summary) -> bool {
     matches!(summary.answer, Answer::Open(_))
 }
 
-/// Walks the arms of a branch under a state that subsumes this one and has as little as the arms need: as much as they
-/// needed before, or what a walk under this state tells; and under this state where it has a violation.
-fn learned(
-    program: &Program<'_>,
-    site: &BranchSite,
-    near: Option<Summary>,
-    pc: u16,
-    state: &AbstractState,
-) -> Summary
+/// A summary under as little of a state as the arms of an open branch need; where they come to more, the walk's own.
+fn widened(program: &Program<'_>, whole: Summary, relevance: &Relevance) -> Summary
+    requires { IsSummary program.now whole }
     ensures { IsSummary program.now result }
 {
-    let mut none = Relevance::new(false);
-    if let Some(near) = near
-        && is_open(&near)
-    {
-        let top = like(&near.state, state);
-        let summary = walked(program, site, pc, &top, &mut none);
-        if is_open(&summary) {
-            return summary;
-        }
-    }
-    let mut relevance = Relevance::new(true);
-    let whole = walked(program, site, pc, state, &mut relevance);
     if is_open(&whole) {
-        let top = relevance.least(state);
-        let summary = walked(program, site, pc, &top, &mut none);
+        let mut none = Relevance::new(false);
+        let top = relevance.least(&whole.state);
+        let summary = walked(program, &whole.site, whole.branch, &top, &mut none);
         if is_open(&summary) {
             return summary;
         }
@@ -179,23 +153,26 @@ impl Summaries {
     {
         Summaries {
             list: Vec::new(alloc),
-            newest: [0; 256],
+            places: BTreeMap::new(alloc),
         }
     }
 
-    /// The summary there, if it is of this branch.
+    /// The summary of the program point there, if it is of this branch.
     fn at(&self, place: usize, site: &BranchSite, pc: u16) -> Option<Summary>
-        ensures branch { IfSome result (λ p. p.branch ≡ pc) }
-        ensures site { IfSome result (λ p. p.site ≡ site.now) }
-        ensures there { IfSome result (λ p. slice_get self.now.list.items place ≡ Some p) }
+        ensures branch { IfSome result (λ s. s.branch ≡ pc) }
+        ensures site { IfSome result (λ s. s.site ≡ site.now) }
+        ensures kept { IfSome result (λ s. (p : Program) → AreSummaries p self.now.list.items → IsSummary p s) }
     {
-        match self.list.get(place) {
+        let Some(at) = self.places.get(&place) else {
+            return None;
+        };
+        match self.list.get(*at) {
             Some(summary) if summary.branch == pc && is_same(&summary.site, site) => Some(*summary),
             Some(_) | None => None,
         }
     }
 
-    /// What the summary there says of a branch under a state. Where the branch is open, its arms then write.
+    /// What the summary of the program point there says under a state. Where the branch is open, its arms then write.
     fn answer(
         &self,
         place: usize,
@@ -233,41 +210,16 @@ impl Summaries {
         }
     }
 
-    /// What the point's own summary or the branch's newest says.
-    fn known(
-        &self,
-        own: Option<usize>,
-        site: &BranchSite,
-        pc: u16,
-        state: &mut AbstractState,
-    ) -> Option<Outcome>
-        ensures open { result ≡ Some Outcome.Open → (p : Program) (call_string : List ℕ) →
-            AreSummaries p self.now.list.items → OpensTo p site.now (branch_from pc call_string state.old) state.new }
-        ensures shut { result ≡ Some Outcome.Shut → (p : Program) (call_string : List ℕ) →
-            AreSummaries p self.now.list.items →
-            (flow_at p site.now (branch_from pc call_string state.old)).violations ≢ [] }
-        ensures silent { result ≡ None → state.new ≡ state.old }
-    {
-        if let Some(place) = own
-            && let Some(outcome) = self.answer(place, site, pc, state)
-        {
-            return Some(outcome);
-        }
-        self.answer(self.newest[number(pc)], site, pc, state)
-    }
-
-    /// Keeps a summary in a point's own place, and tells the place.
-    fn keep(&mut self, own: Option<usize>, summary: Summary) -> Result<usize, AllocError>
+    /// Keeps the summary of the program point there.
+    fn keep(&mut self, place: usize, summary: Summary) -> Result<(), AllocError>
         ensures summaries { IfOk result (λ _. (p : Program) → IsSummary p summary →
             AreSummaries p self.old.list.items → AreSummaries p self.new.list.items) }
     {
-        let place = match own {
-            Some(place) => place,
-            None => self.list.len(),
-        };
-        put(&mut self.list, place, summary)?;
-        self.newest[number(summary.branch)] = place;
-        Ok(place)
+        let end = self.list.len();
+        let at = self.places.get(&place).copied().unwrap_or(end);
+        put(&mut self.list, at, summary)?;
+        self.places.insert(place, at)?;
+        Ok(())
     }
 
     /// Whether a branch has no violation under its state. Where it has none, its arms then write.
@@ -275,7 +227,7 @@ impl Summaries {
         &mut self,
         program: &Program<'_>,
         site: &BranchSite,
-        own: &mut Option<usize>,
+        place: usize,
         pc: u16,
         state: &mut AbstractState,
     ) -> Result<Outcome, AllocError>
@@ -286,32 +238,22 @@ impl Summaries {
             (flow_at program.now site.now (branch_from pc call_string state.old)).violations ≢ []) }
         ensures summaries { IfOk result (λ _. AreSummaries program.now self.new.list.items) }
     {
-        if let Some(outcome) = self.known(*own, site, pc, state) {
-            return Ok(outcome);
-        }
-        let near = self.at(self.newest[number(pc)], site, pc);
-        let summary = learned(program, site, near, pc, state);
-        let place = self.keep(*own, summary)?;
-        *own = Some(place);
         if let Some(outcome) = self.answer(place, site, pc, state) {
             return Ok(outcome);
         }
-        Ok(applied(program, site, pc, state))
+        let mut relevance = Relevance::new(true);
+        let whole = walked(program, site, pc, state, &mut relevance);
+        self.keep(place, widened(program, whole, &relevance))?;
+        Ok(settle(&whole, state))
     }
 
     /// Whether it is known that a branch has no violation under its state.
-    pub fn is_open(
-        &self,
-        own: Option<usize>,
-        site: &BranchSite,
-        pc: u16,
-        state: &AbstractState,
-    ) -> bool
+    pub fn is_open(&self, place: usize, site: &BranchSite, pc: u16, state: &AbstractState) -> bool
         ensures { result ≡ true → (p : Program) (call_string : List ℕ) → AreSummaries p self.now.list.items →
             (flow_at p site.now (branch_from pc call_string state.now)).violations ≡ [] }
     {
         let mut state = *state;
-        match self.known(own, site, pc, &mut state) {
+        match self.answer(place, site, pc, &mut state) {
             Some(Outcome::Open) => true,
             Some(Outcome::Shut) | None => false,
         }
@@ -323,7 +265,7 @@ impl Summaries {
 pub fn step_with(
     program: &Program<'_>,
     summaries: &mut Summaries,
-    own: &mut Option<usize>,
+    place: usize,
     point: &mut Point,
 ) -> Result<Stepped, AllocError>
     requires summaries { AreSummaries program.now summaries.old.list.items }
@@ -340,7 +282,7 @@ pub fn step_with(
     match site_of(program, pc, &point.state) {
         Some(site) => {
             let mut stepped = Stepped::new(&point.call_string);
-            match summaries.apply(program, &site, own, pc, &mut point.state)? {
+            match summaries.apply(program, &site, place, pc, &mut point.state)? {
                 Outcome::Open => {
                     stepped.targets.push(site.arm.join);
                     Ok(stepped)
@@ -359,7 +301,7 @@ pub fn step_with(
 fn violation_of_arms(
     program: &Program<'_>,
     summaries: &Summaries,
-    own: Option<usize>,
+    place: usize,
     site: &BranchSite,
     point: &Point,
     mut least: Option<Violation>,
@@ -367,7 +309,7 @@ fn violation_of_arms(
     requires summaries { AreSummaries program.now summaries.now.list.items }
     ensures { result ≡ noted (flow_at program.now site.now (point_at point.now)).violations least }
 {
-    if summaries.is_open(own, site, point.addr, &point.state) {
+    if summaries.is_open(place, site, point.addr, &point.state) {
         return least;
     }
     let mut told = point.state;
@@ -380,7 +322,7 @@ fn violation_of_arms(
 pub fn violation_with(
     program: &Program<'_>,
     summaries: &Summaries,
-    own: Option<usize>,
+    place: usize,
     point: &Point,
     least: Option<Violation>,
 ) -> Option<Violation>
@@ -388,7 +330,7 @@ pub fn violation_with(
     ensures { result ≡ noted (flow program.now (point_at point.now)).violations least }
 {
     match site_of(program, point.addr, &point.state) {
-        Some(site) => violation_of_arms(program, summaries, own, &site, point, least),
+        Some(site) => violation_of_arms(program, summaries, place, &site, point, least),
         None => {
             let mut stepped = Stepped::new(&point.call_string);
             stepped.least = least;

@@ -32,7 +32,7 @@ fn least_more(
         ≡ noted (all_violations (flow program.now) (points_of (drop (i + 1) all.now))) result }
 {
     let point = all.point(i);
-    violation_with(program, summaries, all.summary(i), &point, least)
+    violation_with(program, summaries, i, &point, least)
 }
 
 /// The least violation of the program points under their states.

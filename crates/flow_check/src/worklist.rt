@@ -31,11 +31,8 @@ fn give(
     ensures kept { IfOk result (λ _. StillKept all.old all.new) }
     ensures summaries { IfOk result (λ _. AreSummaries program.now summaries.new.list.items) }
 {
-    let from = changed.place;
     let mut point = changed.point;
-    let mut own = all.summary(from);
-    let stepped = step_with(program, summaries, &mut own, &mut point)?;
-    all.set_summary(from, own);
+    let stepped = step_with(program, summaries, changed.place, &mut point)?;
     if stepped.least.is_none() {
         let targets = stepped.targets.as_slice();
         all.take(&mut point.state, targets, &stepped.call_string)?;
