@@ -1,7 +1,7 @@
 -- The transfer functions: what an instruction reaches and does, over abstract values.
 use Rattle.flow_rule.specs.declared.Reach.{Reach}
 use Rattle.flow_rule.specs.declared.Told.{Told}
-use Rattle.std.specs.Prelude.{ℕ, ◌-◌, ◌*◌, ◌/◌, ◌%◌, List, [], ◌∷◌, ◌++◌, drop, filter, slice_set, ◌==◌, if◌then◌else◌, Bool, true, false, ◌&&◌, ◌||◌, not, Option, Some, None}
+use Rattle.std.specs.Prelude.{ℕ, ◌-◌, ◌*◌, ◌/◌, ◌%◌, List, [], ◌∷◌, ◌++◌, drop, filter, fold, zip, slice_set, ◌==◌, if◌then◌else◌, Bool, true, false, ◌&&◌, ◌||◌, not, Option, Some, None}
 use Rattle.sm_words.specs.Words.{nth, add16, bit, word_at}
 use Rattle.insn_decode.specs.Code.{words_of, length_of, distance}
 use Rattle.sm_words.specs.Status.{has_all_flags}
@@ -107,9 +107,7 @@ abbrev pub write_val : Module → List Val → Reach → Val → List Val
 write_val m words x v = elim x.addr [ Known a ↦ write_at m words x.width a v | _ ↦ words ]
 
 abbrev pub writes_val : Module → List Val → List Reach → List Val → List Val
-writes_val m words [] values = words
-writes_val m words (x ∷ xs) [] = words
-writes_val m words (x ∷ xs) (v ∷ values) = writes_val m (write_val m words x v) xs values
+writes_val m words xs values = fold (λ ws p. write_val m ws p.0 p.1) words (zip xs values)
 
 abbrev pub read_reaches : List Reach → List Reach
 read_reaches xs = filter (λ x. is_read x.kind) xs
