@@ -30,6 +30,7 @@ use Rattle.isolation.proofs.Hide.{veil_if, veil_frames, hide_by, hide}
 use Rattle.isolation.proofs.Relation.{times, none_found, backup_of, run_by, lone_of, IsOpen, same_secret, Open as IsOpenNow, Keeps, Twins, Ready, BothActive, both_active, twins_stay, seen_veiled, seen_active}
 use Rattle.isolation.proofs.Settled.{settle_stays}
 use Rattle.isolation.proofs.Settling.{hide_settled, settle_veiled}
+use Rattle.isolation.proofs.Ways.{or_unsettled}
 
 -- frames that are not the module's hide nothing
 frame_by : (c : Bool) (b : Backup) (n : ℕ) → one_if c + n ≡ 0 → veil_if c b ≡ b
@@ -63,22 +64,23 @@ module _ (m : ℕ) (own : Module) (key text : List ℕ) where
     own_is : own_of s.active s.table ≡ Some own
     own_is = ap (λ o. own_of o s.table) active_is ∙ k.sound.found
 
-    settle_run : (p : Phase) → s.phase ≡ p → settle s ≡ settle_in p s
+    settle_run : (p : Phase) → s.phase ≡ p → settle s ≡ or_unsettled (settle_in p s) s
     unfolding settle
-    settle_run p e = ap (λ q. settle_in q s) e
+    settle_run p e = ap (λ q. or_unsettled (settle_in q s) s) e
 
-    rest_zero : (a : After) → rest_of s.phase ≡ 0 → s.after ≡ a → settle s ≡ settle_by a s
-    rest_zero a e f = settle_run (Run 0) ((k.proper act).0 ∙ ap Run e) ∙ ap (λ x. settle_by x s) f
+    rest_zero : (a : After) → rest_of s.phase ≡ 0 → s.after ≡ a → settle s ≡ or_unsettled (settle_by a s) s
+    rest_zero a e f = settle_run (Run 0) ((k.proper act).0 ∙ ap Run e) ∙ ap (λ x. or_unsettled (settle_by x s) s) f
 
-    stays_in : (b : Bool) → in_text (Some own) (pc_of s) ≡ b → settle_by Next s ≡ leave_if b (Some m) s
+    stays_in : (b : Bool) → in_text (Some own) (pc_of s) ≡ b → or_unsettled (settle_by Next s) s ≡ or_unsettled (leave_if b (Some m) s) s
     stays_in b e =
-        ap (λ o. leave_if (in_text o (pc_of s)) s.active s) own_is ∙ ap (λ x. leave_if x s.active s) e ∙ ap (λ a. leave_if b a s) active_is
+        ap (λ o. or_unsettled (leave_if (in_text o (pc_of s)) s.active s) s) own_is
+        ∙ ap (λ x. or_unsettled (leave_if x s.active s) s) e ∙ ap (λ a. or_unsettled (leave_if b a s) s) active_is
 
     open_settled : (r : ℕ) (c t : Bool) (n : Option Insn) → rest_of s.phase ≡ r → is_close s.after ≡ c → holds own.text (pc_of s) ≡ t → settle s ≡ settled_as (doing_by r c t n) s
     open_settled (suc r) c t n er ec et = settle_run (Run (suc r)) ((k.proper act).0 ∙ ap Run er)
     open_settled zero true t n er ec et =
         rest_zero Close er ((k.proper act).1 ∙ ap closing_after ec)
-        ∙ ap (λ o. close_of s.active o s) own_is ∙ ap (λ a. close_of a (Some own) s) active_is
+        ∙ ap (λ o. or_unsettled (close_of s.active o s) s) own_is ∙ ap (λ a. or_unsettled (close_of a (Some own) s) s) active_is
     open_settled zero false false n er ec et = rest_zero Next er ((k.proper act).1 ∙ ap closing_after ec) ∙ stays_in false et
     open_settled zero false true None er ec et = rest_zero Next er ((k.proper act).1 ∙ ap closing_after ec) ∙ stays_in true et
     open_settled zero false true (Some i) er ec et = rest_zero Next er ((k.proper act).1 ∙ ap closing_after ec) ∙ stays_in true et

@@ -13,7 +13,7 @@ use Rattle.written_machine.proofs.Stops.{cycle_by}
 use Rattle.isolation.specs.Calls.{Hides, Handles, rest_of}
 use Rattle.isolation.proofs.Tame.{Calm, is_handler, closing_calm, turned, turn_late, Late, bare_hides, late_handles, hides_more, hides_front, cycle_number, ticked_stop}
 use Rattle.isolation.proofs.Cases.{turn_at, turn_is}
-use Rattle.isolation.proofs.Ways.{sent_tells, counted_holds, settle_ways}
+use Rattle.isolation.proofs.Ways.{sent_tells, counted_holds, settle_ways, or_unsettled}
 
 -- ---- settling where no handler is due
 record Settles (u : Settled) : Type 0 where
@@ -33,7 +33,7 @@ ticked_calm s h = h
 -- ---- padding
 settle_pad : (n : ℕ) (s : State) → s.phase ≡ Pad n → settle s ≡ unsettled s
 unfolding settle
-settle_pad n s e = ap (λ p. settle_in p s) e
+settle_pad n s e = ap (λ p. or_unsettled (settle_in p s) s) e
 
 turn_pad : (n left : ℕ) (s : State) → s.phase ≡ Pad n → turn left s ≡ quiet (padded (n - 1) s)
 turn_pad n left s e = turn_is left s ∙ ap (λ p. turn_at (due s) s.active p left s) e
@@ -55,7 +55,7 @@ move_pad n s e =
 -- ---- a handler begins
 handler_settles : (s : State) → s.phase ≡ Run 0 → s.after ≡ Handler → settle s ≡ record { state = record s { after = Next }; events = Event.Handler (pc_of s) ∷ []; left = 0 }
 unfolding settle
-handler_settles s p a = ap (λ x. settle_in x s) p ∙ ap (λ x. settle_by x s) a
+handler_settles s p a = ap (λ x. or_unsettled (settle_in x s) s) p ∙ ap (λ x. or_unsettled (settle_by x s) s) a
 
 handles_front : (xs ys : List Event) (pc : ℕ) → xs ≡ Event.Handler pc ∷ [] → Handles (xs ++ ys)
 handles_front xs ys pc e = subst (λ l. Handles (l ++ ys)) (sym e) tt

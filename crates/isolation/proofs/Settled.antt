@@ -19,7 +19,7 @@ use Rattle.isolation.proofs.Bytes.{part_cleared}
 use Rattle.isolation.proofs.Outside.{light, stays_by}
 use Rattle.isolation.proofs.Relation.{find_held, found_if, times, backup_of, run_by, Keeps, Stays, stays_self}
 use Rattle.isolation.proofs.Tables.{sound_without}
-use Rattle.isolation.proofs.Ways.{settle_ways}
+use Rattle.isolation.proofs.Ways.{settle_ways, or_unsettled}
 use Rattle.isolation.proofs.Cases.{interrupted}
 
 pub close_is : (c : Bool) → is_close (closing_after c) ≡ c
@@ -74,11 +74,11 @@ module _ (m : ℕ) (own : Module) (key text : List ℕ) where
           keeps = record { sound = k.sound; key_is = k.key_is; text_is = k.text_is; once = omega arith; proper = λ h. (refl, ap closing_after (sym (close_is b.closing))) };
         }
 
-    closed_stays : (id : ℕ) (x : Module) → s.active ≡ Some id → own_of (Some id) s.table ≡ Some x → St s (close_of (Some id) (Some x) s).state
+    closed_stays : (id : ℕ) (x : Module) → s.active ≡ Some id → own_of (Some id) s.table ≡ Some x → St s (or_unsettled (close_of (Some id) (Some x) s) s).state
     closed_stays id x e f =
         let ne : (id == m) ≡ false = ap (is_id m) (sym e) ∙ other in
         let p = k.sound.others id x f ne in
-        stays_by m own key text s (close_of (Some id) (Some x) s).state k other refl
+        stays_by m own key text s (or_unsettled (close_of (Some id) (Some x) s) s).state k other refl
         (part_cleared own.ram.start (size_of own.ram) x.ram.start (size_of x.ram) s.memory p.0)
         (part_cleared own.text.start (size_of own.text) x.ram.start (size_of x.ram) s.memory p.1)
         refl refl refl (sound_without m own s.table id ne k.sound)
@@ -87,7 +87,7 @@ module _ (m : ℕ) (own : Module) (key text : List ℕ) where
     unfolding resumed_state
     settle_stays =
         settle_ways s (λ u. St s u.state) self resumed_stays closed_stays (λ e. light m own key text s k other (record s { after = Next }) (refl, refl, refl, refl, refl))
-        (λ id a. stays_by m own key text s (leave_if false (Some id) s).state k other refl refl refl refl refl refl k.sound)
+        (λ id a. stays_by m own key text s (or_unsettled (leave_if false (Some id) s) s).state k other refl refl refl refl refl refl k.sound)
 
   -- ---- an arrival inside a module, also this one
   pub arrive_inside_stays : (v id : ℕ) (s : State) → Keeps m own key text s → s.active ≡ Some id → St s (interrupted v id s).state

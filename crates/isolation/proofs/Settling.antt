@@ -23,6 +23,7 @@ use Rattle.isolation.proofs.Bytes.{cleared_comm}
 use Rattle.isolation.proofs.Hide.{veil_core, veil_if, veil_frames, veil, veil_step, hide_by, hide, length_veiled, vector_veiled}
 use Rattle.isolation.proofs.Rights.{Sound}
 use Rattle.isolation.proofs.Cases.{interrupted}
+use Rattle.isolation.proofs.Ways.{or_unsettled}
 use Rattle.sm_words.specs.Status.{is_gie}
 
 abbrev pub hide_settled : ℕ → Module → Settled → Settled
@@ -83,28 +84,28 @@ module _ (m : ℕ) (own : Module) where
     unsettled_veiled : unsettled (veil m own s) ≡ hide_settled m own (unsettled s)
     unsettled_veiled = ap unsettled (sym same_hidden)
 
-    resume_veiled : (fs : List Frame) → resume_from (veil_frames m fs) (veil m own s) ≡ hide_settled m own (resume_from fs s)
+    resume_veiled : (fs : List Frame) → or_unsettled (resume_from (veil_frames m fs) (veil m own s)) (veil m own s) ≡ hide_settled m own (or_unsettled (resume_from fs s) s)
     resume_veiled (Held b ∷ fs) = resume_by (b.module == m) b fs s
     resume_veiled _ = unsettled_veiled
 
-    close_veiled : (a : Option ℕ) (o : Option Module) → close_of a o (veil m own s) ≡ hide_settled m own (close_of a o s)
+    close_veiled : (a : Option ℕ) (o : Option Module) → or_unsettled (close_of a o (veil m own s)) (veil m own s) ≡ hide_settled m own (or_unsettled (close_of a o s) s)
     close_veiled (Some id) (Some x) = rw (cleared_comm x.ram.start (size_of x.ram) own.ram.start (size_of own.ram) s.memory) refl
     close_veiled _ _ = unsettled_veiled
 
-    leave_veiled : (b : Bool) (a : Option ℕ) → leave_if b a (veil m own s) ≡ hide_settled m own (leave_if b a s)
+    leave_veiled : (b : Bool) (a : Option ℕ) → or_unsettled (leave_if b a (veil m own s)) (veil m own s) ≡ hide_settled m own (or_unsettled (leave_if b a s) s)
     leave_veiled false (Some id) = refl
     leave_veiled _ _ = unsettled_veiled
 
-    handler_veiled : settle_by Handler (veil m own s) ≡ hide_settled m own (settle_by Handler s)
+    handler_veiled : or_unsettled (settle_by Handler (veil m own s)) (veil m own s) ≡ hide_settled m own (or_unsettled (settle_by Handler s) s)
     handler_veiled = rw other refl
 
-    settle_by_veiled : (a : After) → settle_by a (veil m own s) ≡ hide_settled m own (settle_by a s)
+    settle_by_veiled : (a : After) → or_unsettled (settle_by a (veil m own s)) (veil m own s) ≡ hide_settled m own (or_unsettled (settle_by a s) s)
     settle_by_veiled Resume = resume_veiled s.frames
     settle_by_veiled Close = close_veiled s.active (own_of s.active s.table)
     settle_by_veiled Handler = handler_veiled
     settle_by_veiled Next = leave_veiled (in_text (own_of s.active s.table) (pc_of s)) s.active
 
-    settle_in_veiled : (p : Phase) → settle_in p (veil m own s) ≡ hide_settled m own (settle_in p s)
+    settle_in_veiled : (p : Phase) → or_unsettled (settle_in p (veil m own s)) (veil m own s) ≡ hide_settled m own (or_unsettled (settle_in p s) s)
     settle_in_veiled (Run zero) = settle_by_veiled s.after
     settle_in_veiled _ = unsettled_veiled
 

@@ -1,5 +1,5 @@
 -- What holds of each way that a step can go holds of the step.
-use Rattle.std.proofs.Common.{◌≡◌, ℕ, zero, suc, ◌+◌, ◌-◌, List, [], ◌∷◌, refl, sym, subst, Bool, true, false, cond, Option, Some, None, drop, ap}
+use Rattle.std.proofs.Common.{◌≡◌, ℕ, zero, suc, ◌+◌, ◌-◌, List, [], ◌∷◌, refl, sym, subst, Bool, true, false, cond, Option, Some, None, unwrap_or, drop, ap}
 use Rattle.sm_words.specs.Words.{word_at}
 use Rattle.insn_decode.specs.Code.{insn_of, length_of}
 use Rattle.insn_decode.specs.declared.insn.Insn.{Insn}
@@ -135,28 +135,31 @@ module _ (s : State) (P : Step → Type 0) where
     turn_ways = subst P (sym (turn_is left s)) (by_case (due s) s.active s.phase refl refl refl)
 
 -- what is settled: nothing, a resumption, a closing, a handler, or that a module is left
-module _ (s : State) (P : Settled → Type 0) (stays : P (unsettled s)) (resumes : (b : Backup) (fs : List Frame) → s.frames ≡ Held b ∷ fs → P (resume_from (Held b ∷ fs) s))
-    (closes : (id : ℕ) (x : Module) → s.active ≡ Some id → own_of (Some id) s.table ≡ Some x → P (close_of (Some id) (Some x) s)) (handles : s.after ≡ Handler → P (settle_by Handler s))
-    (leaves : (id : ℕ) → s.active ≡ Some id → P (leave_if false (Some id) s)) where
-  resumed : (fs : List Frame) → s.frames ≡ fs → P (resume_from fs s)
+abbrev pub or_unsettled : Option Settled → State → Settled
+or_unsettled u s = unwrap_or u (unsettled s)
+
+module _ (s : State) (P : Settled → Type 0) (stays : P (unsettled s)) (resumes : (b : Backup) (fs : List Frame) → s.frames ≡ Held b ∷ fs → P (or_unsettled (resume_from (Held b ∷ fs) s) s))
+    (closes : (id : ℕ) (x : Module) → s.active ≡ Some id → own_of (Some id) s.table ≡ Some x → P (or_unsettled (close_of (Some id) (Some x) s) s))
+    (handles : s.after ≡ Handler → P (or_unsettled (settle_by Handler s) s)) (leaves : (id : ℕ) → s.active ≡ Some id → P (or_unsettled (leave_if false (Some id) s) s)) where
+  resumed : (fs : List Frame) → s.frames ≡ fs → P (or_unsettled (resume_from fs s) s)
   resumed (Held b ∷ fs) e = resumes b fs e
   resumed _ e = stays
 
-  closed : (a : Option ℕ) (o : Option Module) → s.active ≡ a → own_of a s.table ≡ o → P (close_of a o s)
+  closed : (a : Option ℕ) (o : Option Module) → s.active ≡ a → own_of a s.table ≡ o → P (or_unsettled (close_of a o s) s)
   closed (Some id) (Some x) e f = closes id x e f
   closed _ _ e f = stays
 
-  left_out : (b : Bool) (a : Option ℕ) → s.active ≡ a → P (leave_if b a s)
+  left_out : (b : Bool) (a : Option ℕ) → s.active ≡ a → P (or_unsettled (leave_if b a s) s)
   left_out false (Some id) e = leaves id e
   left_out _ _ e = stays
 
-  by_after : (a : After) → s.after ≡ a → P (settle_by a s)
+  by_after : (a : After) → s.after ≡ a → P (or_unsettled (settle_by a s) s)
   by_after Resume e = resumed s.frames refl
   by_after Close e = closed s.active (own_of s.active s.table) refl refl
   by_after Handler e = handles e
   by_after Next e = left_out (in_text (own_of s.active s.table) (pc_of s)) s.active refl
 
-  by_phase : (p : Phase) → P (settle_in p s)
+  by_phase : (p : Phase) → P (or_unsettled (settle_in p s) s)
   by_phase (Run zero) = by_after s.after refl
   by_phase _ = stays
 

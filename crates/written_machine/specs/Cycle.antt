@@ -1,5 +1,5 @@
 -- One cycle of the machine, by its steps.
-use Rattle.std.specs.Prelude.{ℕ, zero, suc, ◌+◌, ◌-◌, ◌*◌, List, [], ◌∷◌, ◌++◌, drop, length, map, option_to_list, slice_index, ◌==◌, nat_lt, if◌then◌else◌, Bool, true, false, ◌&&◌, ◌||◌, not, Option, Some, None, replicate}
+use Rattle.std.specs.Prelude.{ℕ, zero, suc, ◌+◌, ◌-◌, ◌*◌, List, [], ◌∷◌, ◌++◌, drop, length, map, option_to_list, slice_index, ◌==◌, nat_lt, if◌then◌else◌, Bool, true, false, ◌&&◌, ◌||◌, not, Option, Some, None, unwrap_or, replicate}
 use Rattle.std.specs.Option.{option_map_or}
 use Rattle.sm_words.specs.Status.{interrupted_sr, is_cpu_off, is_gie}
 use Rattle.sm_words.specs.Words.{reg, put, sub16, word_at, cleared}
@@ -102,44 +102,44 @@ unsettled s = record { state = s; events = []; left = 0 }
 abbrev pub settled : Event → State → Settled
 settled e s = record { state = s; events = e ∷ []; left = 0 }
 
--- Resume: the newest frame is taken off, and its module goes on with its rest
-abbrev pub resume_from : List Frame → State → Settled
+-- Resume: the newest frame, a module's, is taken off, and its module goes on with its rest
+abbrev pub resume_from : List Frame → State → Option Settled
 resume_from (Held b ∷ fs) s =
-    settled (Resumed b.module)
-    (record s { core = b.core; active = Some b.module; caller = b.caller; frames = fs; phase = Run b.rest; after = closing_after b.closing })
-resume_from _ s = unsettled s
+    Some (settled (Resumed b.module)
+    (record s { core = b.core; active = Some b.module; caller = b.caller; frames = fs; phase = Run b.rest; after = closing_after b.closing }))
+resume_from _ s = None
 
 -- Close: the active module's data become 0, and it leaves the table
-abbrev pub close_of : Option ℕ → Option Module → State → Settled
+abbrev pub close_of : Option ℕ → Option Module → State → Option Settled
 close_of (Some id) (Some m) s =
-    settled (Closed id)
-    (record s { memory = cleared m.ram.start (size_of m.ram) s.memory; table = without id s.table; active = None; after = Next })
-close_of _ _ s = unsettled s
+    Some (settled (Closed id)
+    (record s { memory = cleared m.ram.start (size_of m.ram) s.memory; table = without id s.table; active = None; after = Next }))
+close_of _ _ s = None
 
 -- whether the module's text holds the address
 abbrev pub in_text : Option Module → ℕ → Bool
 in_text own a = option_map_or (λ m. holds m.text a) own false
 
 -- Next: an active module whose text does not hold PC is left
-abbrev pub leave_if : Bool → Option ℕ → State → Settled
-leave_if false (Some id) s = record { state = record s { active = None }; events = Left id (pc_of s) ∷ []; left = id }
-leave_if _ _ s = unsettled s
+abbrev pub leave_if : Bool → Option ℕ → State → Option Settled
+leave_if false (Some id) s = Some (record { state = record s { active = None }; events = Left id (pc_of s) ∷ []; left = id })
+leave_if _ _ s = None
 
--- by what is to be settled
-abbrev pub settle_by : After → State → Settled
+-- by what is to be settled; None where nothing is
+abbrev pub settle_by : After → State → Option Settled
 settle_by Resume s = resume_from s.frames s
 settle_by Close s = close_of s.active (own_of s.active s.table) s
-settle_by Handler s = settled (Handling (pc_of s)) (record s { after = Next })
+settle_by Handler s = Some (settled (Handling (pc_of s)) (record s { after = Next }))
 settle_by Next s = leave_if (in_text (own_of s.active s.table) (pc_of s)) s.active s
 
 -- only where no cycle is left
-abbrev pub settle_in : Phase → State → Settled
+abbrev pub settle_in : Phase → State → Option Settled
 settle_in (Run zero) s = settle_by s.after s
-settle_in _ s = unsettled s
+settle_in _ s = None
 
--- what is settled in this cycle
+-- what is settled in this cycle; where nothing is, the state stays
 unfoldable pub settle : State → Settled
-settle s = settle_in s.phase s
+settle s = unwrap_or (settle_in s.phase s) (unsettled s)
 
 -- ---- arrivals
 
