@@ -1,5 +1,5 @@
 -- What the present bytes and those of the marks are after each change of the pool.
-use Rattle.std.proofs.Common.{◌≡◌, ◌≢◌, ℕ, ◌+◌, ◌-◌, ◌*◌, ◌<◌, ◌≤◌, true, false, Bool, cond, List, [], ◌∷◌, ◌++◌, Some, None, Option, IsSome, is_some, unwrap_or, length, get_or, take, drop, append_assoc, All, map, count_by, replicate, sym, refl, subst, ap, ◌∙◌, arith, suc, ⊎_elim}
+use Rattle.std.proofs.Common.{◌≡◌, ◌≢◌, ℕ, ◌+◌, ◌-◌, ◌*◌, ◌<◌, ◌≤◌, true, false, Bool, cond, List, [], ◌∷◌, ◌++◌, Some, None, Option, IsSome, is_some, unwrap_or, option_map, length, get_or, take, drop, append_assoc, All, map, count_by, replicate, sym, refl, subst, ap, ◌∙◌, arith, suc, ⊎_elim}
 use Rattle.std.proofs.Math.ListN.{set}
 use Rattle.std.proofs.lemmas.Bool.{false≢true, cases_lt, cond-true, cond-false}
 use Rattle.std.proofs.lemmas.List.{length-set, take_all, drop_all, append-nil, set-set, length-append, length-map, length-take-le, length-replicate, get_or-replicate, set_at, map-append, get_or_append_left, get_or_push, get_or-set_same, get_or-set_other, get_or-map, get_or_default, get_or_past}
@@ -7,9 +7,9 @@ use Rattle.std.proofs.lemmas.List.Elements.{All-nil, All-head, All-tail, All-con
 use Rattle.std.proofs.Math.Seq.{take-append_seam, take-suc, drop-cons}
 use Rattle.std.proofs.lemmas.List.Folds.{sum_by-replicate}
 use Rattle.std.proofs.lemmas.List.Sums.{sum_by-set, sum_by-cons, count_by-le-length}
-use Rattle.page_pool.specs.Tables.{table_of, table_bytes, zeros, IsLive, IsUnused}
+use Rattle.page_pool.specs.Tables.{table_of, zeros, IsLive, IsUnused}
 use Rattle.mem_map.specs.Contents.{Contents}
-use Rattle.mem_map.specs.internal.Marks.{contents_of, IsMarked}
+use Rattle.mem_map.specs.internal.Marks.{contents_of, table_bytes, IsMarked}
 
 -- ---- tables
 
@@ -54,30 +54,39 @@ all_live_other tables t o (m ∷ ms) h l = All-cons (λ mark. IsLive (set tables
 
 -- ---- a byte is written
 
-pub written_marked : (tables : Tables) (present : ℕ) (marks : List ℕ) (room : ℕ) (bytes : List ℕ)
-    → IsMarked tables present marks room → IsMarked (set tables present (Some bytes)) present marks room
-written_marked tables present marks room bytes k =
+-- a function of a live table's bytes
+live_map : (change : List ℕ → List ℕ) (o : Option (List ℕ)) → IsSome o → option_map change o ≡ Some (change (unwrap_or o []))
+live_map change (Some bytes) l = refl
+live_map change None l = absurd (false≢true l)
+
+pub written_marked : (tables : Tables) (present : ℕ) (marks : List ℕ) (room : ℕ) (change : List ℕ → List ℕ)
+    → IsMarked tables present marks room → IsMarked (set tables present (option_map change (table_of tables present))) present marks room
+written_marked tables present marks room change k =
+    let o = option_map change (table_of tables present) in
+    let some : is_some o ≡ true = rw (live_map change (table_of tables present) k.live) refl in
     let there = live_there tables present k.live in
-    let long = length-set tables present (Some bytes) in
-    let moved = live_set tables present (Some bytes) there in
+    let long = length-set tables present o in
+    let moved = live_set tables present o there in
     let was = cond-true {A = ℕ} (is_some (get_or tables present None)) 1 0 k.live in
+    let now = cond-true {A = ℕ} (is_some o) 1 0 some in
     let alone = k.alone in
     record {
       tables_length = long ∙ k.tables_length;
       most = k.most;
-      live = subst (λ (x : Option (List ℕ)). IsSome x) (sym (get_or-set_same tables present (Some bytes) None there)) refl;
-      all_live = all_live_other tables present (Some bytes) marks k.apart k.all_live;
+      live = subst (λ (x : Option (List ℕ)). IsSome x) (sym (get_or-set_same tables present o None there)) some;
+      all_live = all_live_other tables present o marks k.apart k.all_live;
       apart = k.apart;
       once = k.once;
       alone = omega arith;
     }
 
-pub written_shown : (tables : Tables) (present : ℕ) (marks : List ℕ) (room : ℕ) (bytes : List ℕ) (before : Contents)
+pub written_shown : (tables : Tables) (present : ℕ) (marks : List ℕ) (room : ℕ) (change : List ℕ → List ℕ) (before : Contents)
     → IsMarked tables present marks room → contents_of tables present marks room ≡ before
-    → contents_of (set tables present (Some bytes)) present marks room ≡ record before { bytes = bytes }
-written_shown tables present marks room bytes before k e =
+    → contents_of (set tables present (option_map change (table_of tables present))) present marks room ≡ record before { bytes = change before.bytes }
+written_shown tables present marks room change before k e =
     let there = live_there tables present k.live in
-    rw (← e, bytes_same tables present (Some bytes) there, map_other tables present (Some bytes) marks k.apart) refl
+    let o = option_map change (table_of tables present) in
+    rw (← e, bytes_same tables present o there, map_other tables present o marks k.apart, live_map change (table_of tables present) k.live) refl
 
 -- ---- a mark is made
 
@@ -339,18 +348,19 @@ zeros_long n = length-replicate n 0
 pub filled_more : (pool after : Tables) (bytes : List ℕ) (tables i byte addr : ℕ)
     → length bytes ≡ 65536 → i < length bytes → 1 ≤ tables → byte ≡ get_or bytes i byte → addr ≡ i
     → pool ≡ set (replicate tables None) 0 (Some (take i bytes ++ drop i (zeros 65536)))
-    → after ≡ set pool 0 (Some (set (table_bytes pool 0) addr byte))
+    → after ≡ set pool 0 (option_map (λ shown. set shown addr byte) (table_of pool 0))
     → after ≡ set (replicate tables None) 0 (Some (take (i + 1) bytes ++ drop (i + 1) (zeros 65536)))
 filled_more pool after bytes tables i byte addr size h least e a p q =
     let start = zeros 65536 in
     let none : Tables = replicate tables None in
     let there : 0 < length none = rw (length-replicate {A = Option (List ℕ)} tables None) least in
-    let shown : table_bytes pool 0 ≡ take i bytes ++ drop i start = ap (λ (ts : Tables). table_bytes ts 0) p ∙ bytes_same none 0 (Some (take i bytes ++ drop i start)) there in
+    let filled = take i bytes ++ drop i start in
+    let shown : table_of pool 0 ≡ Some filled = ap (λ (ts : Tables). table_of ts 0) p ∙ get_or-set_same none 0 (Some filled) None there in
     let next = filled_next bytes start i byte h (zeros_long 65536 ∙ sym size) e in
-    q ∙ ap (λ (ts : Tables). set ts 0 (Some (set (table_bytes pool 0) addr byte))) p
-    ∙ set-set none 0 (Some (take i bytes ++ drop i start)) (Some (set (table_bytes pool 0) addr byte))
-    ∙ ap (λ (bs : List ℕ). set none 0 (Some (set bs addr byte))) shown
-    ∙ ap (λ (k : ℕ). set none 0 (Some (set (take i bytes ++ drop i start) k byte))) a
+    q ∙ ap (λ (o : Option (List ℕ)). set pool 0 (option_map (λ held. set held addr byte) o)) shown
+    ∙ ap (λ (ts : Tables). set ts 0 (Some (set filled addr byte))) p
+    ∙ set-set none 0 (Some filled) (Some (set filled addr byte))
+    ∙ ap (λ (k : ℕ). set none 0 (Some (set filled k byte))) a
     ∙ ap (λ (bs : List ℕ). set none 0 (Some bs)) next
 
 pub filled_all : (pool : Tables) (bytes : List ℕ) (tables i : ℕ) → length bytes ≡ 65536 → length bytes ≤ i

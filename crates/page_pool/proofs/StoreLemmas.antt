@@ -1,12 +1,12 @@
 -- What a sound store says of a place, and what a write of its page leaves.
-use Rattle.std.proofs.Common.{◌≡◌, ◌≢◌, ℕ, ◌+◌, ◌-◌, ◌*◌, ◌<◌, ◌≤◌, List, [], Some, None, Option, unwrap_or, length, get_or, All, sym, refl, subst, ap, ◌∙◌, arith}
+use Rattle.std.proofs.Common.{◌≡◌, ◌≢◌, ℕ, ◌+◌, ◌-◌, ◌*◌, ◌<◌, ◌≤◌, List, [], Some, None, Option, option_map, length, get_or, All, sym, refl, subst, ap, ◌∙◌, arith}
 use Rattle.std.proofs.Math.ListN.{set}
 use Rattle.std.proofs.lemmas.List.{length-set, get_or-set_same, get_or-map, get_or_read}
 use Rattle.std.proofs.lemmas.List.Elements.{All-get_or, All-set}
 use Rattle.std.proofs.lemmas.List.Sums.{get_or-le-sum_by}
 use Rattle.page_pool.specs.declared.store.Table.{Table}
 use Rattle.page_pool.specs.internal.Naming.{names_of, bytes_at, table_at, tables_at, IsCounted, no_table, page_place, IsLiveIn}
-use Rattle.page_pool.specs.Tables.{table_bytes}
+use Rattle.page_pool.specs.Tables.{table_of}
 use Rattle.page_pool.proofs.TableLemmas.{names_in, named_in, live_bytes, tables_at-set_named}
 use Rattle.page_pool.proofs.CopyLemmas.{spare_some, copy_counted, copy_same}
 
@@ -71,15 +71,14 @@ live_table pages tables t l =
 pub page_written : (pages : List (List ℕ)) (counts : List ℕ) (tables : List Table) (free : List ℕ) (spare t n page at byte : ℕ) (bytes : List ℕ) (before : List (Option (List ℕ)))
     → IsCounted pages counts tables free spare → IsLiveIn tables t → n < 256 → at < 256
     → page_place tables t n ≡ page → get_or counts page 0 ≡ 1 → bytes ≡ get_or pages page bytes → tables_at pages tables ≡ before
-    → tables_at (set pages page (set bytes at byte)) tables ≡ set before t (Some (set (table_bytes before t) (256 * n + at) byte))
+    → tables_at (set pages page (set bytes at byte)) tables ≡ set before t (option_map (λ shown. set shown (256 * n + at) byte) (table_of before t))
 page_written pages counts tables free spare t n page at byte bytes before k l small in_page names one e same =
     let inside : page < length pages = subst (λ (x : ℕ). x < length pages) names (place_inside pages counts tables free spare t n k l small) in
     let places = places_long pages counts tables free spare t k l in
     let changed = tables_at-set_named pages tables t n page at byte no_table
     record { there = l.there; live = l.live; place = omega arith; names = names; once = sym (k.counted page inside) ∙ one }
     in_page k.named k.whole_pages in
-    let there : table_bytes (tables_at pages tables) t ≡ bytes_at pages (get_or tables t no_table).places = ap (λ (o : Option (List ℕ)). unwrap_or o []) (live_table pages tables t l) in
-    rw (← same, there, get_or_read pages page bytes inside e []) changed
+    rw (← same, live_table pages tables t l, get_or_read pages page bytes inside e []) changed
 
 -- ---- a place gets a page of its own
 

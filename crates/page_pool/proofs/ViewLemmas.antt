@@ -1,11 +1,11 @@
 -- What a table shows, page by page, and which tables are live.
-use Rattle.std.proofs.Common.{◌≡◌, ℕ, ◌+◌, ◌-◌, ◌*◌, ◌<◌, true, false, Bool, cond, List, [], ◌∷◌, ◌++◌, Some, None, Option, IsSome, unwrap_or, length, get_or, take, drop, All, slice_range, refl, subst, ap, ◌∙◌, arith, suc, zero, ⊎_elim}
+use Rattle.std.proofs.Common.{◌≡◌, ℕ, ◌+◌, ◌-◌, ◌*◌, ◌<◌, true, false, Bool, cond, List, [], ◌∷◌, ◌++◌, Some, None, Option, IsSome, option_map, length, get_or, take, drop, All, slice_range, refl, subst, ap, ◌∙◌, arith, suc, zero, ⊎_elim}
 use Rattle.std.proofs.lemmas.Bool.{cases_lt, false≢true}
 use Rattle.std.proofs.lemmas.List.{length-append, length-map, get_or-map, get_or_past}
 use Rattle.std.proofs.Math.Seq.{take-append_seam, drop-append-add}
 use Rattle.std.proofs.lemmas.List.Elements.{All-head, All-tail, All-get_or, All-map, All-weaker}
 use Rattle.page_pool.specs.declared.store.Table.{Table}
-use Rattle.page_pool.specs.Tables.{table_bytes, IsLive, IsUnused}
+use Rattle.page_pool.specs.Tables.{table_of, IsLive, IsUnused}
 use Rattle.page_pool.specs.internal.Naming.{bytes_at, table_at, tables_at, IsCounted, no_table, page_place, IsLiveIn, IsUnusedIn}
 use Rattle.page_pool.proofs.StoreLemmas.{places_long, live_table}
 
@@ -56,25 +56,25 @@ live_in pages tables t h = ⊎_elim
 
 pub page_shown : (pages : List (List ℕ)) (counts : List ℕ) (tables : List Table) (free : List ℕ) (spare t n : ℕ) (before : List (Option (List ℕ)))
     → IsCounted pages counts tables free spare → tables_at pages tables ≡ before → IsLive before t → n < 256
-    → slice_range (table_bytes before t) (256 * n) (256 * n + 256) ≡ get_or pages (page_place tables t n) []
+    → option_map (λ bytes. slice_range bytes (256 * n) (256 * n + 256)) (table_of before t) ≡ Some (get_or pages (page_place tables t n) [])
 page_shown pages counts tables free spare t n before k same l small =
     let live : IsLiveIn tables t = live_in pages tables t (rw same l) in
     let places = places_long pages counts tables free spare t k live in
-    let there : table_bytes before t ≡ bytes_at pages (get_or tables t no_table).places = rw (← same) (ap (λ (o : Option (List ℕ)). unwrap_or o []) (live_table pages tables t live)) in
+    let there : table_of before t ≡ Some (bytes_at pages (get_or tables t no_table).places) = rw (← same) (live_table pages tables t live) in
     let inside : All (λ place. place < length pages) (get_or tables t no_table).places = All-get_or (λ w. All (λ place. place < length pages) w.places) tables t no_table live.there k.named in
     let width : 256 * n + 256 - 256 * n ≡ 256 = omega arith in
-    rw (there, width) (page_range pages (get_or tables t no_table).places n (omega arith) inside k.whole_pages)
+    rw (there, width) (ap (λ (page : List ℕ). Some page) (page_range pages (get_or tables t no_table).places n (omega arith) inside k.whole_pages))
 
 pub size_shown : (pages : List (List ℕ)) (counts : List ℕ) (tables : List Table) (free : List ℕ) (spare t : ℕ) (before : List (Option (List ℕ)))
     → IsCounted pages counts tables free spare → tables_at pages tables ≡ before → IsLive before t
-    → length (table_bytes before t) ≡ 65536
+    → option_map (λ bytes. length bytes) (table_of before t) ≡ Some 65536
 size_shown pages counts tables free spare t before k same l =
     let live : IsLiveIn tables t = live_in pages tables t (rw same l) in
     let places = places_long pages counts tables free spare t k live in
-    let there : table_bytes before t ≡ bytes_at pages (get_or tables t no_table).places = rw (← same) (ap (λ (o : Option (List ℕ)). unwrap_or o []) (live_table pages tables t live)) in
+    let there : table_of before t ≡ Some (bytes_at pages (get_or tables t no_table).places) = rw (← same) (live_table pages tables t live) in
     let inside : All (λ place. place < length pages) (get_or tables t no_table).places = All-get_or (λ w. All (λ place. place < length pages) w.places) tables t no_table live.there k.named in
     let long = bytes_long pages (get_or tables t no_table).places inside k.whole_pages in
-    rw there (omega arith)
+    rw there (ap (λ (size : ℕ). Some size) (omega arith))
 
 -- ---- live and not live
 

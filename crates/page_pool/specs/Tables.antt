@@ -1,13 +1,9 @@
 -- What a pool of pages holds: for each table its bytes, or nothing where it is not live.
-use Rattle.std.specs.Prelude.{ℕ, List, [], Option, None, IsSome, get_or, unwrap_or, replicate, length, ◌≡◌, ◌<◌}
+use Rattle.std.specs.Prelude.{ℕ, List, Option, None, IsSome, get_or, replicate, length, ◌≡◌, ◌<◌}
 
 -- the bytes of table t; none where it is not live, or is not there
 abbrev pub table_of : List (Option (List ℕ)) → ℕ → Option (List ℕ)
 table_of tables t = get_or tables t None
-
--- the bytes of a live table
-abbrev pub table_bytes : List (Option (List ℕ)) → ℕ → List ℕ
-table_bytes tables t = unwrap_or (table_of tables t) []
 
 abbrev pub IsLive : List (Option (List ℕ)) → ℕ → Type 0
 IsLive tables t = IsSome (table_of tables t)

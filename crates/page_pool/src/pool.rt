@@ -1,7 +1,7 @@
 //! The pool as its callers see it: tables of bytes.
 
-ghost use Rattle.std.specs.Prelude.{◌≡◌, ◌+◌, ◌*◌, ◌≤◌, ◌↔◌, All, IsErr, IsSome, IfOk, OnErr, Some, None, length, replicate, slice_range, slice_set};
-ghost use Rattle.page_pool.specs.Tables.{table_bytes, table_of, zeros, IsLive, IsUnused};
+ghost use Rattle.std.specs.Prelude.{◌≡◌, ◌+◌, ◌*◌, ◌≤◌, ◌↔◌, All, IsErr, IsSome, IfOk, OnErr, Some, None, length, option_map, replicate, slice_range, slice_set};
+ghost use Rattle.page_pool.specs.Tables.{table_of, zeros, IsLive, IsUnused};
 
 use crate::store::Store;
 use std::alloc::{AllocError, Global};
@@ -48,9 +48,10 @@ impl Pool {
     #[tactic(auto, using(crate::proofs::ViewLemmas::page_shown, crate::proofs::ViewLemmas::size_shown))]
     pub fn page(&self, t: u16, n: u8) -> &[u8]
         requires { IsLive self.now t }
-        ensures page { result.now ≡ slice_range (table_bytes self.now t) (256 * n) (256 * n + 256) }
+        ensures page { option_map (λ bytes. slice_range bytes (256 * n) (256 * n + 256)) (table_of self.now t) ≡
+            Some result.now }
         ensures length { length result.now ≡ 256 }
-        ensures size { length (table_bytes self.now t) ≡ 65536 }
+        ensures size { option_map (λ bytes. length bytes) (table_of self.now t) ≡ Some 65536 }
     {
         self.store.page(usize::from(t), usize::from(n))
     }
@@ -58,7 +59,8 @@ impl Pool {
     /// Writes one byte of a live table; no byte of another table changes.
     pub fn write(&mut self, t: u16, addr: u16, byte: u8)
         requires { IsLive self.old t }
-        ensures written { self.new ≡ slice_set self.old t (Some (slice_set (table_bytes self.old t) addr byte)) }
+        ensures written { self.new ≡ slice_set self.old t
+            (option_map (λ bytes. slice_set bytes addr byte) (table_of self.old t)) }
     {
         let page = usize::from(addr / 256);
         let at = usize::from(addr % 256);

@@ -30,8 +30,8 @@ pub struct Store {
 }
 
 impl Store {
-    ghost use Rattle.std.specs.Prelude.{◌≡◌, ◌≢◌, ◌+◌, ◌*◌, ◌<◌, [], get_or, slice_set, replicate, true, All, Some, None, IfOk, IsNone, IfSome};
-    ghost use Rattle.page_pool.specs.Tables.{table_bytes, table_of, zeros};
+    ghost use Rattle.std.specs.Prelude.{◌≡◌, ◌≢◌, ◌+◌, ◌*◌, ◌<◌, [], get_or, slice_set, option_map, replicate, true, All, Some, None, IfOk, IsNone, IfSome};
+    ghost use Rattle.page_pool.specs.Tables.{table_of, zeros};
     ghost use Rattle.page_pool.specs.internal.Naming.{tables_of, page_place, IsLiveIn, IsUnusedIn, IsStore};
 
     /// A store of so many tables, of which table 0 alone is live. All its bytes are 0, on one page.
@@ -76,7 +76,7 @@ impl Store {
         requires at { at < 256 }
         ensures store { IsStore self.new }
         ensures written { tables_of self.new ≡ slice_set (tables_of self.old) t
-            (Some (slice_set (table_bytes (tables_of self.old) t) (256 * n + at) byte)) }
+            (option_map (λ bytes. slice_set bytes (256 * n + at) byte) (table_of (tables_of self.old) t)) }
     {
         let own = self.own_page(t, n);
         self.pages[own][at] = byte;

@@ -1,5 +1,5 @@
 -- Tables that are live stay so while others are written, copied and ended.
-use Rattle.std.proofs.Common.{◌≡◌, ◌≢◌, ℕ, ◌<◌, List, Option, Some, None, IsSome, All, length, replicate, get_or, subst, sym, ap, refl, ◌∙◌, arith}
+use Rattle.std.proofs.Common.{◌≡◌, ◌≢◌, ℕ, ◌<◌, List, Option, Some, None, IsSome, option_map, All, length, replicate, get_or, subst, sym, ap, refl, ◌∙◌, arith}
 use Rattle.std.proofs.Math.ListN.{set}
 use Rattle.std.proofs.lemmas.Bool.{false≢true}
 use Rattle.std.proofs.lemmas.List.{length-set, get_or-set_other}
@@ -12,8 +12,14 @@ Tables = List (Option (List ℕ))
 pub live_of_all : (tables : Tables) (t : ℕ) → All (λ table. IsSome table) tables → length tables ≡ 17 → t < 17 → IsLive tables t
 live_of_all tables t all long h = All-get_or (λ table. IsSome table) tables t None (omega arith) all
 
-pub all_written : (tables after : Tables) (t : ℕ) (bytes : List ℕ) → All (λ table. IsSome table) tables → after ≡ set tables t (Some bytes) → All (λ table. IsSome table) after
-all_written tables after t bytes all e = rw e (All-set (λ table. IsSome table) tables t (Some bytes) refl all)
+some_written : (change : List ℕ → List ℕ) (o : Option (List ℕ)) → IsSome o → IsSome (option_map change o)
+some_written change (Some bytes) l = refl
+some_written change None l = l
+
+pub all_written : (tables after : Tables) (t : ℕ) (change : List ℕ → List ℕ) → IsLive tables t → All (λ table. IsSome table) tables → after ≡ set tables t (option_map change (table_of tables t)) → All (λ table. IsSome table) after
+all_written tables after t change live all e =
+    let o = option_map change (table_of tables t) in
+    rw e (All-set (λ table. IsSome table) tables t o (some_written change (table_of tables t) live) all)
 
 pub as_many : (tables after : Tables) (t : ℕ) (o : Option (List ℕ)) → length tables ≡ 17 → after ≡ set tables t o → length after ≡ 17
 as_many tables after t o long e = rw e (length-set tables t o ∙ long)

@@ -1,7 +1,11 @@
 -- How a memory keeps its bytes and those of its marks: one table of a pool each.
-use Rattle.std.specs.Prelude.{◌≡◌, ◌≢◌, ℕ, ◌+◌, ◌<◌, ◌≤◌, List, Option, All, length, get_or, map, count_by, is_some}
-use Rattle.page_pool.specs.Tables.{table_bytes, IsLive}
+use Rattle.std.specs.Prelude.{◌≡◌, ◌≢◌, ℕ, ◌+◌, ◌<◌, ◌≤◌, List, [], Option, All, length, get_or, map, count_by, is_some, unwrap_or}
+use Rattle.page_pool.specs.Tables.{table_of, IsLive}
 use Rattle.mem_map.specs.Contents.{Contents}
+
+-- the bytes of a table that is live
+abbrev pub table_bytes : List (Option (List ℕ)) → ℕ → List ℕ
+table_bytes tables t = unwrap_or (table_of tables t) []
 
 abbrev pub contents_of : List (Option (List ℕ)) → ℕ → List ℕ → ℕ → Contents
 contents_of tables present marks room = record { bytes = table_bytes tables present; marked = map (table_bytes tables) marks; room = room }
