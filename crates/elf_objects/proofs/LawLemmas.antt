@@ -1,7 +1,8 @@
 -- What holds of the sections, symbols and relocations of an object.
-use Rattle.std.proofs.Common.{◌≡◌, ℕ, zero, suc, ◌+◌, ◌*◌, ◌-◌, ◌/◌, ◌<◌, ◌≤◌, List, [], ◌∷◌, length, drop, Option, Some, None, Bool, true, false, not, ◌&&◌, ◌||◌, is_none, refl, ap, sym, ◌∙◌, ◌⊎◌, inl, inr, arith, subst, eqb, ltb, cond, get_or, unwrap_or, length-take, length-drop}
+use Rattle.std.proofs.Common.{◌≡◌, ℕ, zero, suc, ◌+◌, ◌*◌, ◌-◌, ◌/◌, ◌<◌, ◌≤◌, List, [], ◌∷◌, length, drop, Option, Some, None, Bool, true, false, not, ◌&&◌, ◌||◌, is_none, refl, ap, sym, ◌∙◌, ◌⊎◌, inl, inr, arith, subst, eqb, ltb, cond, get_or, length-take, length-drop}
 use Rattle.std.proofs.lemmas.Bool.{cases_lt, ltb-true, and_parts}
 use Rattle.std.proofs.lemmas.Bool.Decides.{nat_tests}
+use Rattle.std.proofs.lemmas.List.Sums.{prefix_len-le-length}
 use Rattle.std.proofs.lemmas.List.Elements.{All-append, All-push, All-nil, All-same}
 use Rattle.std.proofs.lemmas.Option.{slice_get_within, get_or_from_slice_get, slice_get-get_or}
 use Rattle.std.specs.Prelude.{slice_get, IfSome}
@@ -123,28 +124,20 @@ bytes_sized : (file : List ℕ) (i : ℕ) → (section_of file i).bytes.end ≤ 
 unfolding section_of
 bytes_sized file i = bytes_sized_by (header_of file i) (is_absent (header_of file i)) (section_of file i).bytes refl
 
-position_by : (b : Bool) (at n size : ℕ) (rest : Option ℕ) → cond b (Some at) rest ≡ Some n → (rest ≡ Some n → (at + 1 ≤ n) × (n < at + 1 + size)) → (at ≤ n) × (n < at + suc size)
-position_by true at n size rest e later = let same : at ≡ n = cc in (omega arith, omega arith)
-position_by false at n size rest e later = let k = later e in (omega (arith, k.0), omega (arith, k.1))
-
--- the place that a search gives is one of those it looked at
-position_within : (p : ℕ → Bool) (at : ℕ) (bytes : List ℕ) (n : ℕ) → position_from p at bytes ≡ Some n → (at ≤ n) × (n < at + length bytes)
-position_within p at [] n e = cc
-position_within p at (byte ∷ bytes) n e = position_by (p byte) at n (length bytes) (position_from p (at + 1) bytes) e (position_within p (at + 1) bytes n)
-
-name_within_by : (file : List ℕ) (strings : Header) (offset : ℕ) (o : Option ℕ) → name_end file strings offset ≡ o → is_none o ≡ false → strings.offset + strings.size ≤ length file → IsSpanWithin (length file) (record { start = strings.offset + offset; end = strings.offset + unwrap_or o offset })
-unfolding name_end
-name_within_by file strings offset None e some ends = cc
-name_within_by file strings offset (Some n) e some ends =
-    let at = position_within _ offset (drop offset (content file strings)) n e in
-    let low : offset ≤ n = at.0 in
-    let high : n < offset + length (drop offset (content file strings)) = at.1 in
-    let short : length (drop offset (content file strings)) ≤ strings.size - offset = simp (length-drop, length-take) (omega arith) in
-    record { ordered = omega arith; within = omega arith }
+-- a search that finds something looks at something
+looked_at : (p : ℕ → Bool) (at : ℕ) (bytes : List ℕ) → is_none (position_from p at bytes) ≡ false → 0 < length bytes
+looked_at p at [] e = cc
+looked_at p at (byte ∷ bytes) e = omega arith
 
 -- a name of a string table that is in the file
 name_within : (file : List ℕ) (strings : Header) (offset : ℕ) → is_none (name_end file strings offset) ≡ false → strings.offset + strings.size ≤ length file → IsSpanWithin (length file) (name_span file strings offset)
-name_within file strings offset some ends = name_within_by file strings offset (name_end file strings offset) refl some ends
+unfolding name_end
+name_within file strings offset some ends =
+    let rest = drop offset (content file strings) in
+    let found = looked_at (λ b. eqb b 0) offset rest some in
+    let named = prefix_len-le-length (λ b. not (eqb b 0)) rest in
+    let short : length rest ≤ strings.size - offset = simp (length-drop, length-take) (omega arith) in
+    record { ordered = omega arith; within = omega (arith, found, named, short) }
 
 -- a section that is a string table is in the file
 strings_end : (file : List ℕ) (i : ℕ) → IsSound file → i < section_count file → eqb (header_of file i).kind 3 ≡ true → (header_of file i).offset + (header_of file i).size ≤ length file

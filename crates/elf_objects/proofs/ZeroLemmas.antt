@@ -1,7 +1,7 @@
 -- The zeros of a string table, and the first one from an offset on.
-use Rattle.std.proofs.Common.{◌≡◌, ℕ, zero, suc, ◌+◌, ◌-◌, ◌<◌, ◌≤◌, List, [], ◌∷◌, drop, length, Option, Some, Bool, true, false, cond, refl, ap, sym, ◌∙◌, ◌⊎◌, inl, inr, arith, add-one, All}
+use Rattle.std.proofs.Common.{◌≡◌, ℕ, zero, suc, ◌+◌, ◌-◌, ◌<◌, ◌≤◌, List, [], ◌∷◌, drop, length, length-drop, Option, Some, unwrap_or, max, not, Bool, true, false, cond, refl, ap, sym, ◌∙◌, ◌⊎◌, inl, inr, arith, add-one, All}
 use Rattle.std.specs.Prelude.{slice_get, slice_index}
-use Rattle.std.specs.List.{position_from}
+use Rattle.std.specs.List.{position_from, prefix_len}
 use Rattle.std.specs.List.Sorted.{IsNonDecreasing, IsPartitionPoint}
 use Rattle.std.proofs.lemmas.Bool.{cases_lt, lt-ltb, le-ltb}
 use Rattle.std.proofs.Math.Seq.{drop-cons}
@@ -53,6 +53,18 @@ from hay i (suc n) k h e = from_by hay i n k (cases_lt i k) h e (λ l. from hay 
 -- the first one from an offset on is where the name there ends
 pub ends : (bytes : List ℕ) (k : ℕ) → first_from (places (is_byte 0) bytes) k ≡ end_in bytes k
 ends bytes k = from bytes 0 (length bytes - 0) k (omega arith) (omega arith)
+
+-- the bytes before a 0, or before the end
+long_by : (zero : Bool) (at more last : ℕ) (rest : Option ℕ) → unwrap_or rest last ≡ at + 1 + more → unwrap_or (cond zero (Some at) rest) last ≡ at + cond (not zero) (1 + more) 0
+long_by true at more last rest e = omega arith
+long_by false at more last rest e = omega arith
+
+pub name_long : (bytes : List ℕ) (at last : ℕ) → last ≡ at + length bytes → unwrap_or (position_from (is_byte 0) at bytes) last ≡ at + prefix_len (λ b. not (is_byte 0 b)) bytes
+name_long [] at last e = omega arith
+name_long (b ∷ bytes) at last e = long_by (is_byte 0 b) at (prefix_len (λ x. not (is_byte 0 x)) bytes) last (position_from (is_byte 0) (at + 1) bytes) (name_long bytes (at + 1) last (omega arith))
+
+pub spans : (bytes : List ℕ) (k : ℕ) → unwrap_or (first_from (places (is_byte 0) bytes) k) (max k (length bytes)) ≡ k + prefix_len (λ b. not (is_byte 0 b)) (drop k bytes)
+spans bytes k = ap (λ o. unwrap_or o (max k (length bytes))) (ends bytes k) ∙ name_long (drop k bytes) k (max k (length bytes)) (simp length-drop (omega arith))
 
 -- ---- they rise
 

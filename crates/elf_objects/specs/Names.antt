@@ -1,6 +1,6 @@
 -- Names in a string table (TIS ELF 1.2, "String Table"), and the sections with theirs.
-use Rattle.std.specs.Prelude.{ℕ, ◌+◌, List, drop, ◌==◌, Option, is_none, unwrap_or}
-use Rattle.std.specs.List.{position_from}
+use Rattle.std.specs.Prelude.{ℕ, ◌+◌, List, drop, not, ◌==◌, Option, is_none}
+use Rattle.std.specs.List.{position_from, prefix_len}
 use Rattle.elf_objects.specs.declared.fault.ElfFault.{ElfFault}
 use Rattle.elf_objects.specs.declared.fault.ElfFault.TheVariants as fault
 use Rattle.elf_objects.specs.declared.section.Header.{Header}
@@ -19,10 +19,12 @@ end_in bytes offset = position_from (λ b. b == 0) offset (drop offset bytes)
 unfoldable pub name_end : List ℕ → Header → ℕ → Option ℕ
 name_end file strings offset = end_in (content file strings) offset
 
--- the name's place in the file
+-- the name's place in the file: the bytes from this offset on that come before a 0
 abbrev pub name_span : List ℕ → Header → ℕ → Span
-name_span file strings offset =
-    record { start = strings.offset + offset; end = strings.offset + unwrap_or (name_end file strings offset) offset }
+name_span file strings offset = record {
+  start = strings.offset + offset;
+  end = strings.offset + (offset + prefix_len (λ b. not (b == 0)) (drop offset (content file strings)));
+}
 
 -- where the sections' names are
 abbrev pub names_header : List ℕ → Header

@@ -1,6 +1,6 @@
 //! Names in a string table, and the sections with theirs.
 
-ghost use Rattle.std.specs.Prelude.{◌≡◌, ◌<◌, ◌≤◌, ◌+◌, ◌^◌, length, IfOk, IfErr, OnOk, None, unwrap_or};
+ghost use Rattle.std.specs.Prelude.{◌≡◌, ◌<◌, ◌≤◌, ◌+◌, ◌^◌, length, IfOk, IfErr, OnOk, None, unwrap_or, max};
 ghost use Rattle.std.specs.List.Sorted.{IsNonDecreasing, IsPartitionPoint};
 ghost use Rattle.memchr.specs.Find.{is_byte, places};
 ghost use Rattle.elf_objects.specs.Passes.{IsFaultOf};
@@ -19,6 +19,7 @@ use std::alloc::{AllocError, Global};
 #[derive(Drop)]
 pub struct Names {
     start: u32,
+    size: u32,
     zeros: Vec<u32>,
 }
 
@@ -50,14 +51,15 @@ fn first_from(zeros: &[u32], offset: u32) -> Option<u32>
 }
 
 impl Names {
-    #[tactic(auto, using(crate::proofs::ZeroLemmas::rises, crate::proofs::ZeroLemmas::ends), unfolding(crate::specs::Names::name_end))]
+    #[tactic(auto, using(crate::proofs::ZeroLemmas::rises, crate::proofs::ZeroLemmas::ends, crate::proofs::ZeroLemmas::spans), unfolding(crate::specs::Names::name_end))]
     pub fn of(alloc: Global, file: &[u8], strings: &Header) -> Result<Names, AllocError>
         ensures { IfOk result (AreNameEnds file.now strings.now) }
     {
-        let zeros = zeros_in(alloc, strings.content(file))?;
+        let content = strings.content(file);
         Ok(Names {
             start: strings.offset,
-            zeros,
+            size: content.len() as u32,
+            zeros: zeros_in(alloc, content)?,
         })
     }
 
@@ -69,16 +71,18 @@ impl Names {
         first_from(&self.zeros, offset)
     }
 
-    /// The name's place in the file.
+    /// The name's place in the file: the bytes before a 0.
     pub fn span(&self, offset: u32) -> Span
         requires { IsNonDecreasing self.now.zeros.items }
         ensures start { result.start ≡ self.now.start + offset }
-        ensures end { result.end ≡ self.now.start + unwrap_or (first_from self.now.zeros.items offset) offset }
+        ensures end { result.end ≡ self.now.start + unwrap_or (first_from self.now.zeros.items offset)
+            (max offset self.now.size) }
     {
         let start = self.start as usize;
+        let end = self.end(offset).unwrap_or(offset.max(self.size));
         Span {
             start: start + offset as usize,
-            end: start + self.end(offset).unwrap_or(offset) as usize,
+            end: start + end as usize,
         }
     }
 }

@@ -1,7 +1,7 @@
 -- The object that is read of a unit's file is the unit's.
-use Rattle.std.proofs.Common.{◌≡◌, ℕ, suc, ◌+◌, ◌-◌, ◌<◌, List, [], ◌∷◌, ◌++◌, map, refl, ap, sym, subst, ◌∙◌, arith, length, take, drop, get_or, cond, eqb, ◌||◌, Option, Some, unwrap_or}
+use Rattle.std.proofs.Common.{◌≡◌, ℕ, suc, ◌+◌, ◌-◌, ◌<◌, List, [], ◌∷◌, ◌++◌, map, refl, ap, sym, subst, ◌∙◌, arith, length, take, drop, get_or, cond, eqb, ◌||◌, Some, not, unwrap_or}
 use Rattle.std.specs.Prelude.{slice_range}
-use Rattle.std.specs.List.{flat_map, All}
+use Rattle.std.specs.List.{flat_map, All, prefix_len}
 use Rattle.std.proofs.lemmas.List.{take_at, length-map, nil_from_length, get_or-map, get_or_append_left}
 use Rattle.std.proofs.lemmas.List.Elements.{All-get_or}
 use Rattle.elf_objects.specs.declared.section.Header.{Header}
@@ -9,6 +9,7 @@ use Rattle.elf_objects.specs.declared.object.Span.{Span}
 use Rattle.elf_objects.specs.Header.{name_table}
 use Rattle.elf_objects.specs.Section.{header_of, content, content_span}
 use Rattle.elf_objects.specs.Names.{end_in, name_end, name_span, section_of}
+use Rattle.elf_objects.proofs.ZeroLemmas.{name_long}
 use Rattle.asm_text.specs.declared.unit.SectionKind.{SectionKind}
 use Rattle.asm_text.specs.declared.unit.SectionKind.TheVariants.{Code, Data, Bss}
 use Rattle.asm_text.specs.Parts.{SectionValue, UnitValue, IsUnit, IsSectionValue, kept_size}
@@ -49,9 +50,11 @@ name_range file strings names most k at held s is lt all =
     let off : ℕ = strings.offset in
     let name : List ℕ = get_or names k [] in
     let ends : name_end file strings at ≡ Some (name_at names k + length name) = ap (λ l. end_in l at) held ∙ (ap (end_in (string_table names)) is ∙ name_ends names most k lt all) in
-    ap (λ (o : Option ℕ). slice_range file (off + at) (off + unwrap_or o at)) ends
-    ∙ (ap (λ n. slice_range file (off + n) (off + (name_at names k + length name))) is
-    ∙ range_by file (off + name_at names k) (off + (name_at names k + length name)) name (omega arith) (name_stands file off names k lt s))
+    let rest : List ℕ = drop at (content file strings) in
+    let last : ℕ = at + length rest in
+    let long : name_at names k + length name ≡ at + prefix_len (λ b. not (eqb b 0)) rest = sym (ap (λ o. unwrap_or o last) ends) ∙ name_long rest at last refl in
+    ap (λ n. slice_range file (off + n) ((name_span file strings at).end)) is
+    ∙ range_by file (off + name_at names k) ((name_span file strings at).end) name (omega (arith, long, is)) (name_stands file off names k lt s)
 
 -- ---- sections
 
