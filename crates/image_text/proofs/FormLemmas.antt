@@ -1,6 +1,6 @@
 -- Forms, and the lines that have them.
-use Rattle.std.proofs.Common.{◌≡◌, ◌≢◌, ℕ, zero, suc, ◌+◌, ◌*◌, ◌-◌, ◌/◌, ◌%◌, ◌<◌, List, [], ◌∷◌, ◌++◌, length, take, drop, get_or, slice_range, Bool, true, false, nat_lt, cond, not, ◌&&◌, ◌==◌, Option, Some, None, unwrap_or, refl, sym, ap, ◌∙◌, subst, arith, length-drop, length-append}
-use Rattle.std.proofs.lemmas.List.{take_at}
+use Rattle.std.proofs.Common.{◌≡◌, ◌≢◌, ℕ, zero, suc, ◌+◌, ◌*◌, ◌-◌, ◌/◌, ◌%◌, ◌<◌, List, [], ◌∷◌, ◌++◌, length, take, drop, get_or, slice_index, slice_range, Bool, true, false, nat_lt, cond, not, ◌&&◌, ◌==◌, Option, Some, None, option_map, refl, sym, ap, ◌∙◌, subst, arith, length-drop, length-append}
+use Rattle.std.proofs.lemmas.List.{take_at, get_or-drop, drop-drop}
 use Rattle.std.proofs.lemmas.Bool.Decides.{nat_tests}
 use Rattle.std.proofs.lemmas.Bool.{and_parts, not-false}
 use Rattle.hex.specs.Hex.{IsBytes, lower_digits, encode_with, encode_lower}
@@ -10,7 +10,7 @@ use Rattle.texts.proofs.HexLemmas.{read_hex-encode}
 use Rattle.texts.proofs.LawLemmas.{words_are_read, word_bytes}
 use Rattle.texts.specs.Hexadecimals.{hex_word}
 use Rattle.image_text.specs.declared.ImageFault.{ImageFault}
-use Rattle.image_text.specs.Refusal.{Spot, fits, has_form, is_bad, bad_digit, formed, digits_bytes, digits_word}
+use Rattle.image_text.specs.Refusal.{Spot, fits, has_form, is_bad, bad_digit, formed, digit_value, digits_byte, digits_bytes, digits_word}
 use Rattle.image_text.specs.internal.Reading.{HasLineForm, CodedAt}
 
 pub form_length : (form line : List ℕ) → has_form form line ≡ true → length form ≡ length line
@@ -89,9 +89,6 @@ after_word (c ∷ text) form (b ∷ line) n h =
 
 -- ---- digits
 
-abbrev pub digit_value : ℕ → ℕ
-digit_value c = cond (nat_lt c 58) (c - 48) (c - 87)
-
 -- the sixteen digits
 pub digit_at : (n : ℕ) → n < 16 → get_or lower_digits n 0 ≡ cond (nat_lt n 10) (48 + n) (87 + n)
 digit_at (suc (suc (suc (suc (suc (suc (suc (suc (suc (suc (suc (suc (suc (suc (suc (suc n)))))))))))))))) l = absurd (omega arith)
@@ -104,6 +101,30 @@ digit_is c e =
     let same : cond (nat_lt (digit_value c) 10) (48 + digit_value c) (87 + digit_value c) ≡ c = grind (arith, nat_tests) in
     (small, digit_at (digit_value c) small ∙ same)
 
+-- a number below 16 is the value of its digit
+value_back : (n : ℕ) → n < 16 → digit_value (get_or lower_digits n 0) ≡ n
+value_back (suc (suc (suc (suc (suc (suc (suc (suc (suc (suc (suc (suc (suc (suc (suc (suc n)))))))))))))))) l = absurd (omega arith)
+value_back _ l = refl
+
+-- the byte of two digits, and the bytes of pairs of digits
+byte_back : (line rest : List ℕ) (from b : ℕ) → b < 256 → drop from line ≡ get_or lower_digits (b / 16) 0 ∷ get_or lower_digits (b % 16) 0 ∷ rest → digits_byte from line ≡ b
+unfolding digits_byte
+byte_back line rest from b l e =
+    let here : from ≡ from + 0 = omega arith in
+    let high = ap digit_value (ap (slice_index line) here ∙ sym (get_or-drop from line 0 0) ∙ ap (λ xs. get_or xs 0 0) e) ∙ value_back (b / 16) (omega (arith, l)) in
+    let low = ap digit_value (sym (get_or-drop from line 1 0) ∙ ap (λ xs. get_or xs 1 0) e) ∙ value_back (b % 16) (omega arith) in
+    let joined : 16 * (b / 16) + b % 16 ≡ b = omega arith in
+    ap (λ n. 16 * n + digit_value (slice_index line (from + 1))) high ∙ ap (λ n. 16 * (b / 16) + n) low ∙ joined
+
+bytes_back : (n : ℕ) (bytes rest line : List ℕ) (from : ℕ) → IsBytes bytes → length bytes ≡ n → drop from line ≡ encode_lower bytes ++ rest → digits_bytes from n line ≡ bytes
+unfolding encode_with digits_bytes
+bytes_back zero [] rest line from are len e = refl
+bytes_back (suc n) (b ∷ bytes) rest line from are len e =
+    let more = bytes_back n bytes rest line (from + 2) (λ k. are (suc k)) (omega (arith, len)) (sym (drop-drop 2 from line) ∙ ap (drop 2) e) in
+    ap (λ c. c ∷ digits_bytes (from + 2) n line) (byte_back line (encode_lower bytes ++ rest) from b (are 0) e) ∙ ap (λ bs. b ∷ bs) more
+bytes_back zero (b ∷ bytes) rest line from are len e = absurd (omega (arith, len))
+bytes_back (suc n) [] rest line from are len e = absurd (omega (arith, len))
+
 -- bytes that stand as digits at a place
 pub coded_at : (line rest : List ℕ) (from n : ℕ) (bytes : List ℕ) → 0 < n → IsBytes bytes → length bytes ≡ n → drop from line ≡ encode_lower bytes ++ rest
     → CodedAt line from n × (digits_bytes from n line ≡ bytes)
@@ -111,7 +132,7 @@ coded_at line rest from n bytes some are len e =
     let twice : length (encode_lower bytes) ≡ 2 * n = omega (arith, length-encode_with lower_digits bytes, len) in
     let range : from + 2 * n - from ≡ 2 * n = omega arith in
     let part : slice_range line from (from + 2 * n) ≡ encode_lower bytes = rw range (ap (take (2 * n)) e ∙ take_at (encode_lower bytes) rest (2 * n) twice) in
-    let value : digits_bytes from n line ≡ bytes = ap (λ (l : List ℕ). unwrap_or (read_hex n l) []) part ∙ ap (λ o. unwrap_or o []) (read_hex-encode n bytes len are) in (
+    let value : digits_bytes from n line ≡ bytes = bytes_back n bytes rest line from are len e in (
       record {
         within = omega (arith, length-drop from line, ap length e, length-append (encode_lower bytes) rest, twice, some);
         are_bytes = subst IsBytes (sym value) are;
@@ -193,7 +214,16 @@ after_four form line h = by d.bytes d.is d.are d.count
 
 -- a word at a place of a line
 pub word_here : (line rest : List ℕ) (from w : ℕ) → w < 65536 → drop from line ≡ hex_word w ++ rest → CodedAt line from 2 × (digits_word from line ≡ w)
-unfolding encode_with
+unfolding encode_with digits_word digits_bytes
 word_here line rest from w l e =
     let c = coded_at line rest from 2 (w / 256 ∷ w % 256 ∷ []) (omega arith) (word_bytes w l) refl e in
-    (c.0, ap (λ l. unwrap_or (read_hex_word l) 0) (c.0.text ∙ ap encode_lower c.1) ∙ ap (λ o. unwrap_or o 0) ((words_are_read (hex_word w) w).1 (l, refl)))
+    let joined : 256 * (w / 256) + w % 256 ≡ w = omega arith in
+    (c.0, ap (λ bs. 256 * get_or bs 0 0 + get_or bs 1 0) c.1 ∙ joined)
+
+-- so are they read
+pub coded_read : (line : List ℕ) (from n : ℕ) → CodedAt line from n → read_hex n (slice_range line from (from + 2 * n)) ≡ Some (digits_bytes from n line)
+coded_read line from n c = ap (read_hex n) c.text ∙ read_hex-encode n (digits_bytes from n line) c.count c.are_bytes
+
+pub word_read : (line : List ℕ) (from : ℕ) → CodedAt line from 2 → read_hex_word (slice_range line from (from + 4)) ≡ Some (digits_word from line)
+unfolding digits_word digits_bytes
+word_read line from c = ap (option_map (λ bytes. 256 * slice_index bytes 0 + slice_index bytes 1)) (coded_read line from 2 c)

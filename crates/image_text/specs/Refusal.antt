@@ -1,9 +1,9 @@
 -- Why bytes are no image's text: the first line that does not serve.
-use Rattle.std.specs.Prelude.{ℕ, ◌+◌, ◌-◌, ◌*◌, ◌%◌, ◌==◌, nat_lt, if◌then◌else◌, Bool, true, false, not, ◌&&◌, List, [], ◌∷◌, length, drop, nat_eq, bytes_eq, slice_range, codes, unwrap_or, Option, Some, None, option_map}
+use Rattle.std.specs.Prelude.{ℕ, zero, suc, ◌+◌, ◌-◌, ◌*◌, ◌%◌, ◌==◌, nat_lt, if◌then◌else◌, Bool, true, false, not, ◌&&◌, List, [], ◌∷◌, length, drop, nat_eq, bytes_eq, slice_index, codes, Option, Some, None, option_map}
 use Rattle.std.specs.List.{starts_with}
 use Rattle.std.specs.Option.{option_map_or, option_or}
 use Rattle.texts.specs.Decimals.{read_decimal}
-use Rattle.texts.specs.Hexadecimals.{is_hex_digit, read_hex, read_hex_word}
+use Rattle.texts.specs.Hexadecimals.{is_hex_digit}
 use Rattle.mod_layout.specs.declared.Section.{Section}
 use Rattle.mod_layout.specs.declared.TableFault.{TableFault}
 use Rattle.mod_layout.specs.Table.{Table, fault_of, with_module, empty_table}
@@ -71,13 +71,22 @@ formed form s line rest = if has_form form line then digit_or (bad_digit form li
 
 -- ---- values
 
--- the bytes that so many pairs of digits write from a place of a line on
-abbrev pub digits_bytes : ℕ → ℕ → List ℕ → List ℕ
-digits_bytes from count line = unwrap_or (read_hex count (slice_range line from (from + 2 * count))) []
+-- the value of a digit, `0` to `9` or `a` to `f`
+abbrev pub digit_value : ℕ → ℕ
+digit_value b = if nat_lt b 58 then b - 48 else b - 87
+
+-- the byte of the two digits at a place of a line
+unfoldable pub digits_byte : ℕ → List ℕ → ℕ
+digits_byte from line = 16 * digit_value (slice_index line from) + digit_value (slice_index line (from + 1))
+
+-- the bytes of so many pairs of digits from a place of a line on
+unfoldable pub digits_bytes : ℕ → ℕ → List ℕ → List ℕ
+digits_bytes from zero line = []
+digits_bytes from (suc count) line = digits_byte from line ∷ digits_bytes (from + 2) count line
 
 -- the word of the four digits at a place of a line
-abbrev pub digits_word : ℕ → List ℕ → ℕ
-digits_word from line = unwrap_or (read_hex_word (slice_range line from (from + 4))) 0
+unfoldable pub digits_word : ℕ → List ℕ → ℕ
+digits_word from line = 256 * digits_byte from line + digits_byte (from + 2) line
 
 abbrev pub section_at : ℕ → List ℕ → Section
 section_at from line = record { start = digits_word from line; end = digits_word (from + 5) line }

@@ -82,6 +82,7 @@ pub(crate) fn formed(line: Line<'_>, form: &[u8]) -> Result<(), ImageFault>
 }
 
 /// The sixteen bytes that stand as digits at a place of a line.
+#[tactic(auto, using(crate::proofs::FormLemmas::coded_read))]
 pub(crate) fn sixteen_at(line: &[u8], from: usize) -> [u8; 16]
     requires { CodedAt line.now from 16 }
     ensures { result ≡ digits_bytes_lem from 16 line.now }
@@ -93,6 +94,7 @@ pub(crate) fn sixteen_at(line: &[u8], from: usize) -> [u8; 16]
 }
 
 /// The word of the four digits at a place of a line.
+#[tactic(auto, using(crate::proofs::FormLemmas::word_read))]
 pub(crate) fn digits_word(line: &[u8], from: usize) -> u16
     requires { CodedAt line.now from 2 }
     ensures { result ≡ digits_word_lem from line.now }
