@@ -1,12 +1,13 @@
 -- An instruction is written with the words that it was decoded from.
-use Rattle.std.proofs.Common.{ℕ, zero, suc, ◌≡◌, ◌+◌, ◌*◌, ◌/◌, ◌%◌, ◌<◌, false, cond, nat_eq, [], ◌∷◌, ◌++◌, take, refl, ap, sym, ◌∙◌, arith, ◌⊎◌, inl, inr}
+use Rattle.std.proofs.Common.{ℕ, zero, suc, ◌≡◌, ◌+◌, ◌*◌, ◌/◌, ◌%◌, ◌<◌, cond, nat_eq, [], ◌∷◌, ◌++◌, take, refl, ap, sym, ◌∙◌, arith, ◌⊎◌, inl, inr}
 use Rattle.insn_decode.specs.declared.insn.Operand.{Operand}
 use Rattle.insn_decode.specs.declared.insn.Insn.{Insn}
-use Rattle.insn_decode.specs.Code.{words_of as words_in, width_of}
-use Rattle.insn_decode.specs.Means.{Source, register, symbolic, absolute, indexed, indirect, increment, immediate, Destination, to_register, to_symbolic, to_absolute, to_indexed, Means, format_one, format_two, jump, return, unit}
+use Rattle.insn_decode.specs.Code.{words_of as words_in, width_of, offset_of}
+use Rattle.insn_decode.specs.Means.{condition_code, Source, register, symbolic, absolute, indexed, indirect, increment, immediate, Destination, to_register, to_symbolic, to_absolute, to_indexed, Means, format_one, format_two, jump, return, unit}
 use Rattle.insn_decode.proofs.Table.{insn_means}
-use Rattle.asm_text.specs.Encoding.{source_mode, source_register, dest_mode, byte_flag, encoded_first, extension, encoded_words}
-use Rattle.asm_text.specs.Laws.{is_jump, WordsComeBack}
+use Rattle.asm_text.specs.Encoding.{source_mode, source_register, dest_mode, byte_flag, offset_bits, encoded_first, extension, encoded_words}
+use Rattle.asm_text.specs.Laws.{WordsComeBack}
+use Rattle.asm_text.proofs.JumpLemmas.{bits_back}
 
 -- ---- operands
 
@@ -65,24 +66,26 @@ one_extension : (a : Operand) (w1 w2 : ℕ) → ((words_in a ≡ 0) × (extensio
 one_extension a w1 w2 (inl e) = rw (e.0, e.1) refl
 one_extension a w1 w2 (inr e) = rw (e.0, e.1) refl
 
-means_back : {w0 w1 w2 n : ℕ} {insn : Insn} → Means w0 w1 w2 insn n → is_jump insn ≡ false → encoded_words insn ≡ take n (w0 ∷ w1 ∷ w2 ∷ [])
+means_back : {w0 w1 w2 n : ℕ} {insn : Insn} → Means w0 w1 w2 insn n → encoded_words insn ≡ take n (w0 ∷ w1 ∷ w2 ∷ [])
 unfolding encoded_first
-means_back {w0} {w1} {w2} (format_one op s d c source dest) h =
+means_back {w0} {w1} {w2} (format_one op s d c source dest) =
     let a = source_back source (omega arith) in
     let b = dest_back dest (omega arith) in
     let first = two_word w0 _ (source_register s) (dest_mode d) (byte_flag (width_of ((w0 / 64) % 2))) (source_mode s) (source_register d) c a.number b.mode (flag_back ((w0 / 64) % 2) (omega arith)) a.mode b.number in
     let rest = two_extensions s d w1 w2 a.words b.words in
     let size : 1 + words_in s + words_in d ≡ suc (words_in s + words_in d) = omega arith in
     ap (λ w. w ∷ extension s ++ extension d) first ∙ (ap (λ ws. w0 ∷ ws) rest ∙ ap (λ n. take n (w0 ∷ w1 ∷ w2 ∷ [])) (sym size))
-means_back {w0} {w1} {w2} (format_two op a c k source fits) h =
+means_back {w0} {w1} {w2} (format_two op a c k source fits) =
     let b = source_back source (omega arith) in
     let first = one_word w0 _ (byte_flag (width_of ((w0 / 64) % 2))) (source_mode a) (source_register a) c k (flag_back ((w0 / 64) % 2) (omega arith)) b.mode b.number in
     let rest = one_extension a w1 w2 b.words in
     let size : 1 + words_in a ≡ suc (words_in a) = omega arith in
     ap (λ w. w ∷ extension a) first ∙ (ap (λ ws. w0 ∷ ws) rest ∙ ap (λ n. take n (w0 ∷ w1 ∷ w2 ∷ [])) (sym size))
-means_back (jump condition c k) h = absurd cc
-means_back {w0} (return c) h = ap (λ w. w ∷ []) (sym c)
-means_back (unit name c) h = ap (λ w. w ∷ []) (sym c)
+means_back {w0} (jump condition c k) =
+    let bits = bits_back (w0 % 1024) (omega arith) in
+    ap (λ w. w ∷ []) (let whole : 0x2000 + condition_code condition * 1024 + offset_bits (offset_of (w0 % 1024)) ≡ w0 = omega arith in whole)
+means_back {w0} (return c) = ap (λ w. w ∷ []) (sym c)
+means_back (unit name c) = ap (λ w. w ∷ []) (sym c)
 
 pub words_come_back : WordsComeBack
-words_come_back w0 w1 w2 insn e h = means_back (insn_means w0 w1 w2 insn e) h
+words_come_back w0 w1 w2 insn e = means_back (insn_means w0 w1 w2 insn e)

@@ -21,10 +21,10 @@ use Rattle.asm_text.specs.declared.unit.SectionKind.{SectionKind}
 use Rattle.asm_text.specs.declared.unit.SectionKind.TheVariants.{Code as CodeKind, Data as DataKind, Bss as BssKind}
 use Rattle.asm_text.specs.declared.statement.Statement.{Statement}
 use Rattle.asm_text.specs.declared.statement.Statement.TheVariants.{Section, Label, Global, Word, Space, Jump, Code}
-use Rattle.asm_text.specs.Emission.{Meanings, Emitted, statement_bytes, grown, with_statement, in_last, opened_section, emitted, field_number, jump_bytes, jump_over, reach, is_near, jump_word}
+use Rattle.asm_text.specs.Emission.{Meanings, Emitted, statement_bytes, grown, with_statement, in_last, opened_section, emitted, field_number, jump_bytes, jump_over, reach, is_near}
 use Rattle.asm_text.specs.internal.Emitted.{newest_section}
 use Rattle.sm_words.specs.Bytes.{word_bytes}
-use Rattle.asm_text.specs.Encoding.{extension, code_bytes, encoded_first}
+use Rattle.asm_text.specs.Encoding.{extension, code_bytes, jump_word, encoded_first}
 use Rattle.asm_text.specs.Parts.{SectionValue, kept_size}
 use Rattle.asm_text.specs.Placing.{Placed, placed_section, with_bytes, with_label, within, in_section, last_head, placed, has_section, spot_of}
 use Rattle.asm_text.specs.Statements.{statement_size, kind_takes}

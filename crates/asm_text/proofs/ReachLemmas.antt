@@ -19,10 +19,10 @@ use Rattle.asm_text.specs.declared.unit.AsmFault.{AsmFault}
 use Rattle.asm_text.specs.declared.unit.SectionKind.TheVariants.{Code as CodeKind, Data as DataKind, Bss as BssKind}
 use Rattle.asm_text.specs.declared.unit.SectionKind.{SectionKind}
 use Rattle.asm_text.specs.Assembly.{name_count, symbol_order, meanings, unit_for, with_emitted, with_stop, with_placed, assembled_source, assembled}
-use Rattle.asm_text.specs.Emission.{Meanings, Emitted, nothing, emitted, emitted_from, statement_bytes, field_number, with_statement, in_last, grown, opened_section, reach, is_near, jump_word, jump_over, jump_bytes}
+use Rattle.asm_text.specs.Emission.{Meanings, Emitted, nothing, emitted, emitted_from, statement_bytes, field_number, with_statement, in_last, grown, opened_section, reach, is_near, jump_over, jump_bytes}
 use Rattle.asm_text.specs.internal.Emitted.{newest_section}
 use Rattle.sm_words.specs.Bytes.{word_bytes}
-use Rattle.asm_text.specs.Encoding.{code_bytes, is_coded}
+use Rattle.asm_text.specs.Encoding.{code_bytes, jump_word, is_coded}
 use Rattle.asm_text.specs.Jumps.{LeadsToLabel, JumpsReachLabels, LabelsAreEven}
 use Rattle.asm_text.specs.internal.Kept.{IsSource}
 use Rattle.asm_text.specs.internal.Known.{IsKnown}

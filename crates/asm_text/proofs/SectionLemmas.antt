@@ -1,9 +1,8 @@
 -- The sections of an accepted source hold the bytes of their lines in order.
-use Rattle.std.proofs.Common.{ℕ, suc, ◌≡◌, ◌+◌, ◌-◌, List, [], ◌∷◌, ◌++◌, length, map, get_or, set, Option, Some, None, false, Result, Ok, Err, refl, ap, sym, subst, ◌∙◌, append_assoc, arith, cond}
-use Rattle.std.specs.Prelude.{flat_map, slice_get, All}
+use Rattle.std.proofs.Common.{ℕ, suc, ◌≡◌, ◌+◌, ◌-◌, List, [], ◌∷◌, ◌++◌, length, map, set, Some, false, Result, Ok, Err, refl, ap, sym, subst, ◌∙◌, append_assoc, arith, cond}
+use Rattle.std.specs.Prelude.{slice_get, All}
 use Rattle.std.proofs.lemmas.List.{append-nil, map-append}
 use Rattle.std.proofs.lemmas.List.Elements.{All-cons, All-nil}
-use Rattle.asm_text.specs.declared.placing.Head.{Head}
 use Rattle.asm_text.specs.declared.statement.Statement.{Statement}
 use Rattle.asm_text.specs.declared.statement.Statement.TheVariants.{Section, Label, Global, Word, Space, Jump, Code}
 use Rattle.asm_text.specs.declared.unit.AsmFault.{AsmFault}

@@ -5,7 +5,6 @@ use Rattle.insn_decode.specs.declared.insn.Condition.{Condition}
 use Rattle.insn_decode.specs.declared.insn.Insn.{Insn}
 use Rattle.insn_decode.specs.declared.insn.Insn.TheVariants.{Two}
 use Rattle.insn_decode.specs.Code.{words_of as words_in}
-use Rattle.insn_decode.specs.Means.{condition_code}
 use Rattle.asm_text.specs.declared.placing.Spot.{Spot}
 use Rattle.asm_text.specs.declared.statement.Field.{Field}
 use Rattle.asm_text.specs.declared.statement.Field.TheVariants.{Number, Name}
@@ -15,7 +14,7 @@ use Rattle.asm_text.specs.declared.unit.AsmFault.{AsmFault}
 use Rattle.asm_text.specs.declared.unit.AsmFault.TheVariants.{Place, NoLabel, Far}
 use Rattle.asm_text.specs.declared.unit.AsmRelocation.{AsmRelocation}
 use Rattle.asm_text.specs.declared.unit.SectionKind.{SectionKind}
-use Rattle.asm_text.specs.Encoding.{code_bytes}
+use Rattle.asm_text.specs.Encoding.{code_bytes, jump_word}
 use Rattle.asm_text.specs.Parts.{SectionValue}
 use Rattle.asm_text.specs.Placing.{spot_of, unrefused}
 use Rattle.asm_text.specs.Statements.{statement_size}
@@ -44,13 +43,6 @@ reach here there = if nat_le (here + 2) there then pos ((there - (here + 2)) / 2
 abbrev pub is_near : ℤ → Bool
 is_near (pos n) = nat_lt n 512
 is_near (negsuc n) = nat_lt n 512
-
-abbrev pub offset_bits : ℤ → ℕ
-offset_bits (pos n) = n
-offset_bits (negsuc n) = 1023 - n
-
-abbrev pub jump_word : Condition → ℤ → ℕ
-jump_word condition offset = 0x2000 + condition_code condition * 1024 + offset_bits offset
 
 abbrev pub jump_over : ℕ → Condition → ℤ → Result (List ℕ) AsmFault
 jump_over n condition offset = if is_near offset then Ok (word_bytes (jump_word condition offset)) else Err (Far n offset)

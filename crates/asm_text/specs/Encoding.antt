@@ -1,14 +1,15 @@
 -- The words of an instruction (MSP430x1xx Family User's Guide SLAU049, sections 3.3 and 3.4).
-use Rattle.std.specs.Prelude.{ℕ, ◌+◌, ◌*◌, ◌%◌, ◌==◌, nat_lt, Bool, true, false, not, ◌&&◌, if◌then◌else◌, List, [], ◌∷◌, ◌++◌, slice_index_or, flat_map}
+use Rattle.std.specs.Prelude.{ℕ, ◌+◌, ◌-◌, ◌*◌, ◌%◌, ◌==◌, nat_lt, Bool, true, false, not, ◌&&◌, if◌then◌else◌, List, [], ◌∷◌, ◌++◌, slice_index_or, flat_map, ℤ, pos, negsuc}
 use Rattle.sm_words.specs.Bytes.{word_bytes}
 use Rattle.sm_words.specs.declared.width.Width.{Width}
 use Rattle.sm_words.specs.declared.width.Width.TheVariants.{Byte, Word}
 use Rattle.insn_decode.specs.declared.insn.Operand.{Operand}
 use Rattle.insn_decode.specs.declared.insn.Operand.TheVariants.{Reg, Const, Imm, Indexed, Symbolic, Absolute, Indirect, Increment}
+use Rattle.insn_decode.specs.declared.insn.Condition.{Condition}
 use Rattle.insn_decode.specs.declared.insn.Insn.{Insn}
 use Rattle.insn_decode.specs.declared.insn.Insn.TheVariants.{Two, One, Jump, Reti, Unit as UnitOp}
 use Rattle.insn_decode.specs.Code.{length_of, one_fits, is_constant}
-use Rattle.insn_decode.specs.Means.{two_code, one_code, unit_code, Means}
+use Rattle.insn_decode.specs.Means.{two_code, one_code, condition_code, unit_code, Means}
 
 -- ---- fields of a first word
 
@@ -43,11 +44,19 @@ abbrev pub byte_flag : Width → ℕ
 byte_flag Byte = 1
 byte_flag Word = 0
 
+-- the ten lowest bits of an offset
+abbrev pub offset_bits : ℤ → ℕ
+offset_bits (pos n) = n % 1024
+offset_bits (negsuc n) = 1023 - n % 1024
+
+abbrev pub jump_word : Condition → ℤ → ℕ
+jump_word condition offset = 0x2000 + condition_code condition * 1024 + offset_bits offset
+
 -- the first word; it means the instruction where any word does
 unfoldable pub encoded_first : Insn → ℕ
 encoded_first (Two op w s d) = two_code op * 0x1000 + source_register s * 256 + dest_mode d * 128 + byte_flag w * 64 + source_mode s * 16 + source_register d
 encoded_first (One op w a) = 0x1000 + one_code op * 128 + byte_flag w * 64 + source_mode a * 16 + source_register a
-encoded_first (Jump condition offset) = 0
+encoded_first (Jump condition offset) = jump_word condition offset
 encoded_first Reti = 0x1300
 encoded_first (UnitOp name) = 0x1380 + unit_code name
 

@@ -9,8 +9,8 @@ use Rattle.insn_decode.specs.Code.{insn_of, length_of, IsDecoded}
 use Rattle.insn_decode.specs.Means.{Means}
 use Rattle.insn_decode.specs.Text.{insn_text}
 use Rattle.asm_text.specs.declared.statement.Statement.TheVariants.{Code}
-use Rattle.asm_text.specs.Emission.{reach, is_near, jump_word}
-use Rattle.asm_text.specs.Encoding.{extensions, encoded_words, is_coded, IsMeant}
+use Rattle.asm_text.specs.Emission.{reach, is_near}
+use Rattle.asm_text.specs.Encoding.{extensions, encoded_words, jump_word, is_coded, IsMeant}
 use Rattle.asm_text.specs.Jumps.{target_of}
 use Rattle.asm_text.specs.Lines.{statement_of}
 
@@ -48,10 +48,6 @@ abbrev pub ShownIsRead : Type 0
 ShownIsRead = (insn : Insn) (at : ℕ) → IsDecoded insn → is_placeless insn ≡ true → AreWords (extensions insn) →
     (statement_of (insn_text insn at) ≡ Some (Code insn None None)) × IsMeant insn
 
-abbrev pub is_jump : Insn → Bool
-is_jump (Jump condition offset) = true
-is_jump _ = false
-
--- An instruction that was decoded, and is no jump, is written with the very words that it was decoded from.
+-- An instruction that was decoded is written with the very words that it was decoded from.
 abbrev pub WordsComeBack : Type 0
-WordsComeBack = (w0 w1 w2 : ℕ) (insn : Insn) → insn_of w0 w1 w2 ≡ Some insn → is_jump insn ≡ false → encoded_words insn ≡ take (length_of insn) (w0 ∷ w1 ∷ w2 ∷ [])
+WordsComeBack = (w0 w1 w2 : ℕ) (insn : Insn) → insn_of w0 w1 w2 ≡ Some insn → encoded_words insn ≡ take (length_of insn) (w0 ∷ w1 ∷ w2 ∷ [])

@@ -1,6 +1,6 @@
 //! The bytes of the sections, and the relocations.
 
-ghost use Rattle.std.specs.Prelude.{◌≡◌, ◌≢◌, ◌<◌, ◌≤◌, ◌+◌, ◌-◌, ◌*◌, ◌++◌, ◌^◌, ℕ, length, flat_map, Ok, Err, Some, OnOk, IfOk, IfErr, IsTrue, MatchResult};
+ghost use Rattle.std.specs.Prelude.{◌≡◌, ◌≢◌, ◌<◌, ◌≤◌, ◌+◌, ◌-◌, ◌*◌, ◌++◌, ◌^◌, ℕ, length, flat_map, Ok, Err, Some, OnOk, IfOk, IfErr, MatchResult};
 ghost use Rattle.std.specs.Option.{option_to_list};
 ghost use Rattle.arrayvec.specs.ArrayVec.{array_vec_len};
 ghost use Rattle.sm_words.specs.Bytes.{word_bytes};
@@ -13,7 +13,7 @@ ghost use Rattle.asm_text.specs.Statements.{statement_size};
 ghost use Rattle.asm_text.specs.Views.{section_value};
 ghost use Rattle.asm_text.specs.Encoding as encoding;
 
-use crate::encoding::encoded_first;
+use crate::encoding::{encoded_first, jump_word};
 use crate::operand::string_of;
 use crate::placing::{Spot, statement_size};
 use crate::statement::{Field, Statement};
@@ -21,9 +21,6 @@ use crate::unit::{AsmFault, AsmRelocation, AsmSection, SectionKind};
 use arrayvec::ArrayVec;
 use insn_decode::{Condition, Insn, Operand};
 use std::alloc::{AllocError, Global};
-
-/// Bits 13 and up of a jump.
-const JUMP: u16 = 0x2000;
 
 /// The bytes of a statement, at most three words.
 pub type Bytes = ArrayVec<u8, 6>;
@@ -101,14 +98,6 @@ fn is_near(offset: i64) -> bool
     ensures { result ≡ spec.is_near offset }
 {
     -512 <= offset && offset < 512
-}
-
-fn jump_word(condition: Condition, offset: i64) -> u16
-    requires { IsTrue (spec.is_near offset) }
-    ensures { result ≡ spec.jump_word condition offset }
-{
-    let bits = if offset < 0 { 1024 + offset } else { offset };
-    JUMP + u16::from(condition.number()) * 1024 + bits as u16
 }
 
 // The jump of line n, at `here` in this section, to a spot.

@@ -5,11 +5,14 @@ ghost use Rattle.insn_decode.specs.Code.{one_fits, is_constant};
 ghost use Rattle.insn_decode.specs.Means as means;
 ghost use Rattle.asm_text.specs.Encoding as spec;
 
-use insn_decode::{Insn, OneOp, Operand, TwoOp};
+use insn_decode::{Condition, Insn, OneOp, Operand, TwoOp};
 use sm_words::Width;
 
 /// Bits 12 and up of format II.
 const FORMAT_TWO: u16 = 0x1000;
+
+/// Bits 13 and up of a jump.
+const JUMP: u16 = 0x2000;
 
 /// The word of RETI.
 const RETI: u16 = 0x1300;
@@ -106,6 +109,13 @@ fn byte_flag(width: Width) -> u16
     }
 }
 
+/// The word of a jump, with the offset's ten lowest bits.
+pub fn jump_word(condition: Condition, offset: i64) -> u16
+    ensures { result ≡ spec.jump_word condition offset }
+{
+    JUMP + u16::from(condition.number()) * 1024 + offset.rem_euclid(1024) as u16
+}
+
 /// The first word of an instruction.
 #[tactic(auto, unfolding(crate::specs::Encoding::encoded_first))]
 pub fn encoded_first(insn: Insn) -> u16
@@ -132,7 +142,7 @@ pub fn encoded_first(insn: Insn) -> u16
                 + source_mode(arg) * 16
                 + source_register(arg)
         }
-        Insn::Jump { .. } => 0,
+        Insn::Jump { condition, offset } => jump_word(condition, i64::from(offset)),
         Insn::Reti => RETI,
         Insn::Unit(name) => UNIT + u16::from(name.number()),
     }

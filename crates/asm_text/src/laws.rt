@@ -13,8 +13,8 @@ pub fn words_are_meant()
 {}
 
 /// What `show` writes of an instruction that has no operand relative to PC and is no jump, at any address, is read as
-/// that instruction, which its words mean. They are the words that it was decoded from: such lines of the disassembler
-/// are assembled to what was disassembled.
+/// that instruction, which its words mean. The words of any instruction are those that it was decoded from: such lines
+/// of the disassembler are assembled to what was disassembled.
 pub fn shown_is_read()
     ensures read { ShownIsRead }
     ensures words { WordsComeBack }
