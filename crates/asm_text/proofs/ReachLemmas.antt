@@ -401,7 +401,7 @@ reached_by s u number c name a known even line b j =
       holds = bytes_there b.home.bytes b.front (word_bytes (jump_word c (reach here there))) b.back here (b.whole ∙ ap (λ bs. (b.front ++ bs) ++ b.back) j.are) b.size;
       means = λ w1 w2. jumps_are_meant c w1 w2 (reach here there) j.near;
       symbol = subst (λ (v : UnitValue). Contains v.symbols label) a.unit (subst (Contains (symbols_for s.statements a.places s.tables.names (symbol_order s a.places))) is has);
-      named = refl;
+      named = slice_get-get_or s.tables.names name [] known;
       beside = refl;
       reached = sym (jumps_lead here there (even_head line.before b.head line.even b.last) (even.spots name spot j.spot));
     }

@@ -1,5 +1,5 @@
 -- Where the jumps of an accepted source lead.
-use Rattle.std.specs.Prelude.{ℕ, ◌≡◌, ◌+◌, ◌-◌, ◌*◌, ◌%◌, ◌≤◌, List, [], length, take, drop, slice_get, slice_index_or, Some, Ok, All, Contains, ℤ, pos, negsuc}
+use Rattle.std.specs.Prelude.{ℕ, ◌≡◌, ◌+◌, ◌-◌, ◌*◌, ◌%◌, ◌≤◌, List, length, take, drop, slice_get, Some, Ok, All, Contains, ℤ, pos, negsuc}
 use Rattle.insn_decode.specs.declared.insn.Condition.{Condition}
 use Rattle.insn_decode.specs.declared.insn.Insn.TheVariants.{Jump as JumpInsn}
 use Rattle.insn_decode.specs.Means.{Means}
@@ -29,7 +29,7 @@ pub record LeadsToLabel (s : SourceRead) (u : UnitValue) (number : ℕ) (conditi
   pub holds : take 2 (drop here home.bytes) ≡ word_bytes word
   pub means : (w1 w2 : ℕ) → Means word w1 w2 (JumpInsn condition offset) 1
   pub symbol : Contains u.symbols label
-  pub named : label.name ≡ slice_index_or s.tables.names name []
+  pub named : slice_get s.tables.names name ≡ Some label.name
   pub beside : label.home ≡ Some section
   pub reached : label.value ≡ target_of here offset
 
