@@ -10,7 +10,7 @@ use Rattle.insn_decode.specs.Code.{length_of}
 use Rattle.insn_decode.specs.Text.{insn_text}
 use Rattle.insn_decode.specs.declared.insn.Insn.{Insn}
 use Rattle.pc_access.specs.declared.Kind.{Kind}
-use Rattle.pc_access.specs.declared.Kind.TheVariants.{Write}
+use Rattle.pc_access.specs.declared.Kind.TheVariants.{Fetch, Read, Write}
 use Rattle.pc_access.specs.declared.Stop.{Stop}
 use Rattle.irq_padding.specs.Turns.{Turn, Begins}
 use Rattle.cpu_step.specs.Plan.{past}
@@ -48,7 +48,8 @@ value_text Word v = hex_word v
 
 abbrev pub label_of : Kind → List ℕ
 label_of Write = codes "  write "
-label_of _ = codes "  read "
+label_of Read = codes "  read "
+label_of Fetch = codes "  fetch "
 
 -- `  read AAAA VV` or `  write AAAA VV`
 abbrev pub touch_line : Touch → List ℕ

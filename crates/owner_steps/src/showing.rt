@@ -126,7 +126,7 @@ fn label_of(kind: Kind) -> &'static str
     match kind {
         Kind::Write => "  write ",
         Kind::Read => "  read ",
-        Kind::Fetch => "  read ",
+        Kind::Fetch => "  fetch ",
     }
 }
 
