@@ -14,9 +14,8 @@ find_vector n (v ∷ vs) =
       | false ↦ find_vector n vs
     ]
 
-abbrev pub name_of_vector : Option VectorName → List ℕ
-name_of_vector (Some v) = string_bytes v.name
-name_of_vector None = []
+abbrev pub name_of_vector : Option VectorName → Option (List ℕ)
+name_of_vector vector = option_map (λ v. string_bytes v.name) vector
 
 named : (o : Option VectorName) → vector_name (option_map vector_of o) ≡ name_of_vector o
 named (Some v) = refl

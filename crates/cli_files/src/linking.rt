@@ -68,11 +68,11 @@ fn symbol_name(
 ) -> Result<String, AllocError>
     ensures { IfOk result (λ name. string_bytes name ≡ spec.symbol_name (layout_of layout.now) objects.now fault) }
 {
-    shown(alloc, name_in(layout, objects, fault))
+    shown(alloc, name_in(layout, objects, fault).unwrap_or(b""))
 }
 
-fn name_in<'a>(layout: &'a Layout, objects: &'a [Object], fault: LinkFault) -> &'a [u8]
-    ensures { result.now ≡ spec.name_in (layout_of layout.entry.now) objects.entry.now fault }
+fn name_in<'a>(layout: &'a Layout, objects: &'a [Object], fault: LinkFault) -> Option<&'a [u8]>
+    ensures { option_copied result ≡ spec.name_in (layout_of layout.entry.now) objects.entry.now fault }
 {
     match fault {
         LinkFault::Duplicate { object, symbol, .. } => symbol_of(objects, object, symbol),
@@ -80,29 +80,24 @@ fn name_in<'a>(layout: &'a Layout, objects: &'a [Object], fault: LinkFault) -> &
         LinkFault::NoVector { vector } => vector_name(layout, vector),
         LinkFault::NoEntry { module, entry } => entry_of(layout, module, entry),
         LinkFault::EntryElsewhere { module, entry } => entry_of(layout, module, entry),
-        _ => b"",
+        _ => None,
     }
 }
 
-fn symbol_of(objects: &[Object], object: u64, symbol: u64) -> &[u8]
-    ensures { result.now ≡ spec.object_symbol_name (slice_get objects.entry.now object) symbol }
+fn symbol_of(objects: &[Object], object: u64, symbol: u64) -> Option<&[u8]>
+    ensures { option_copied result ≡ spec.object_symbol_name (slice_get objects.entry.now object) symbol }
 {
-    let Some(object) = objects.get(object as usize) else {
-        return b"";
-    };
-    match object.symbols().get(symbol as usize) {
-        Some(symbol) => object.part(symbol.name),
-        None => b"",
-    }
+    let object = objects.get(object as usize)?;
+    let symbol = object.symbols().get(symbol as usize)?;
+    Some(object.part(symbol.name))
 }
 
-fn vector_name(layout: &Layout, number: u64) -> &[u8]
-    ensures { result.now ≡ spec.vector_name (find (λ v. v.vector == number) (layout_of layout.entry.now).vectors) }
+fn vector_name(layout: &Layout, number: u64) -> Option<&[u8]>
+    ensures { option_copied result ≡ spec.vector_name (find (λ v. v.vector == number)
+        (layout_of layout.entry.now).vectors) }
 {
-    match vector_with(layout.vectors.as_slice(), number) {
-        Some(vector) => vector.name.as_str().as_bytes(),
-        None => b"",
-    }
+    let vector = vector_with(layout.vectors.as_slice(), number)?;
+    Some(vector.name.as_str().as_bytes())
 }
 
 // The name of this vector.
@@ -114,16 +109,13 @@ fn vector_with(vectors: &[VectorName], number: u64) -> Option<&VectorName>
         .find(|vector| u64::from(vector.vector) == number)
 }
 
-fn entry_of(layout: &Layout, module: u64, entry: u64) -> &[u8]
-    ensures { result.now ≡ spec.module_entry_name (slice_get (layout_of layout.entry.now).modules «module») entry }
+fn entry_of(layout: &Layout, module: u64, entry: u64) -> Option<&[u8]>
+    ensures { option_copied result ≡ spec.module_entry_name (slice_get (layout_of layout.entry.now).modules «module»)
+        entry }
 {
-    let Some(module) = layout.modules.get(module as usize) else {
-        return b"";
-    };
-    match module.entries.get(entry as usize) {
-        Some(name) => name.as_str().as_bytes(),
-        None => b"",
-    }
+    let module = layout.modules.get(module as usize)?;
+    let name = module.entries.get(entry as usize)?;
+    Some(name.as_str().as_bytes())
 }
 
 // A name as it is shown.
