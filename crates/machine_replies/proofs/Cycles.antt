@@ -1,5 +1,5 @@
 -- What a cycle of a run tells has words and bytes where the trace's lines have them.
-use Rattle.std.proofs.Common.{◌≡◌, ℕ, zero, suc, ◌+◌, ◌%◌, ◌/◌, ◌<◌, List, [], ◌∷◌, ◌++◌, refl, sym, subst, arith, Bool, true, false, cond, ◌==◌, ◌&&◌, nat_lt, Option, Some, None}
+use Rattle.std.proofs.Common.{◌≡◌, ℕ, zero, ◌+◌, ◌%◌, ◌/◌, ◌<◌, List, [], ◌∷◌, ◌++◌, refl, sym, subst, arith, Bool, true, false, cond, ◌==◌, ◌&&◌, nat_lt, Option, Some, None}
 use Rattle.std.specs.Option.{option_or}
 use Rattle.sm_words.specs.Words.{reg, word_at, IsCore}
 use Rattle.sm_words.specs.declared.width.Width.{Width}
@@ -8,8 +8,7 @@ use Rattle.insn_decode.specs.Code.{insn_of, length_of}
 use Rattle.insn_decode.specs.declared.insn.Insn.{Insn}
 use Rattle.insn_decode.specs.declared.insn.Insn.TheVariants.{Two, One, Jump, Reti, Unit as UnitOp}
 use Rattle.schedule_file.specs.declared.Entry.{Entry as Scheduled}
-use Rattle.mod_layout.specs.Table.{place_of, own_of}
-use Rattle.mod_layout.specs.declared.Module.{Module}
+use Rattle.mod_layout.specs.Table.{place_of}
 use Rattle.mod_layout.specs.declared.Place.{Place}
 use Rattle.mod_layout.specs.declared.Place.TheVariants.{Entry}
 use Rattle.pc_access.specs.Accesses.{reads_of, writes_of}
@@ -25,17 +24,15 @@ use Rattle.devices.specs.Devices.{with_low, with_high, Devices, write_of, after_
 use Rattle.devices.proofs.Passing.{timer_line, serial_line}
 use Rattle.image_text.specs.Image.{Image, IsImage}
 use Rattle.reg_backup.specs.Held.{held_ids}
-use Rattle.reg_backup.specs.declared.backup.After.{After}
-use Rattle.reg_backup.specs.declared.backup.After.TheVariants.{Next, Handler, Resume, Close}
 use Rattle.reg_backup.specs.declared.backup.Phase.{Phase}
-use Rattle.reg_backup.specs.declared.backup.Phase.TheVariants.{Run, Pad}
+use Rattle.reg_backup.specs.declared.backup.Phase.TheVariants.{Run}
 use Rattle.reg_backup.specs.declared.frames.Frame.{Frame}
 use Rattle.reg_backup.specs.declared.frames.Frame.TheVariants.{Plain, Module as Held}
 use Rattle.cpu_step.specs.Asked.{asks, effect, table_after}
 use Rattle.cpu_step.specs.Fetched.{insn_at, later_word}
 use Rattle.tracer.specs.Laws.{IsWord, IsEvent}
 use Rattle.tracer.specs.declared.Event.{Event}
-use Rattle.written_machine.specs.Cycle.{Step, told, stopped, pc_of, byte_of, in_text, resume_from, close_of, leave_if, settle_by, settle_in, settle, ticked, due, arrive_inside, arrive_outside, push_both, pushes, port_of, who_of, perform, attempt, returned_by, reti_by, act_on, act_home, act_first, act, is_home, enter_at, enter, fetch, begin, turn, sent_event, counted_by, move, cycle, unless}
+use Rattle.written_machine.specs.Cycle.{Step, told, stopped, pc_of, byte_of, settle, ticked, due, arrive_inside, arrive_outside, push_both, pushes, port_of, who_of, perform, attempt, returned_by, reti_by, act_on, act_home, act_first, act, is_home, enter_at, enter, fetch, begin, turn, sent_event, counted_by, move, cycle, unless}
 use Rattle.written_machine.specs.Ports.{Port, read_in, read_byte, read_width, write_in, write_byte, write_width, take_reads, put_writes}
 use Rattle.written_machine.specs.State.{State}
 use Rattle.written_machine.specs.View.{at}
@@ -46,6 +43,7 @@ use Rattle.isolation.proofs.Each.{Each}
 use Rattle.isolation.proofs.Filled.{Filled, settle_filled, ticked_filled, enter_filled, filled_at}
 use Rattle.isolation.proofs.Fine.{Fine, FineFrame, Small, settled_fine, ticked_fine, enter_fine, table_fine, fine_at}
 use Rattle.isolation.proofs.Passes.{ticked_sent}
+use Rattle.isolation.proofs.Ways.{settle_ways}
 use Rattle.machine_replies.proofs.Asking.{IsWordPlace, place_word, IsWordDenied, denied_word, right_word, IsWordInsn, insn_word, asks_word, own_module}
 
 abbrev AreEvents : List Event → Type 0
@@ -213,35 +211,10 @@ turn_event left s f m g = subst (λ t. AreEvents t.events) (sym (turn_is left s)
 
 -- ---- settling
 
-resume_event : (fs : List Frame) (s : State) → Each FineFrame fs → AreEvents (resume_from fs s).events
-resume_event [] s h = tt
-resume_event (Plain ∷ fs) s h = tt
-resume_event (Held b ∷ fs) s h = (h.0.1, tt)
-
-close_event : (a : Option ℕ) (o : Option Module) (s : State) → Small a → AreEvents (close_of a o s).events
-close_event None o s h = tt
-close_event (Some id) None s h = tt
-close_event (Some id) (Some x) s h = (h, tt)
-
-leave_event : (b : Bool) (a : Option ℕ) (s : State) → Fine s → Small a → AreEvents (leave_if b a s).events
-leave_event false (Some id) s f h = ((h, pc_word s f.core_ok), tt)
-leave_event false None s f h = tt
-leave_event true a s f h = tt
-
-settle_by_event : (a : After) (s : State) → Fine s → AreEvents (settle_by a s).events
-settle_by_event Resume s f = resume_event s.frames s f.frames_ok
-settle_by_event Close s f = close_event s.active (own_of s.active s.table) s f.active_small
-settle_by_event Handler s f = (pc_word s f.core_ok, tt)
-settle_by_event Next s f = leave_event (in_text (own_of s.active s.table) (pc_of s)) s.active s f f.active_small
-
-settle_in_event : (p : Phase) (s : State) → Fine s → AreEvents (settle_in p s).events
-settle_in_event (Run zero) s f = settle_by_event s.after s f
-settle_in_event (Run (suc r)) s f = tt
-settle_in_event (Pad n) s f = tt
-
 settle_event : (s : State) → Fine s → AreEvents (settle s).events
-unfolding settle
-settle_event s f = settle_in_event s.phase s f
+settle_event s f =
+    settle_ways s (λ u. AreEvents u.events) tt (λ b fs e. ((subst (Each FineFrame) e f.frames_ok).0.1, tt)) (λ id x a o. (subst Small a f.active_small, tt))
+    (λ e. (pc_word s f.core_ok, tt)) (λ id a. ((subst Small a f.active_small, pc_word s f.core_ok), tt))
 
 -- ---- the byte sent
 
@@ -405,34 +378,8 @@ case_sends _ _ _ left s = λ k. k
 turn_sends : (left : ℕ) (s : State) → Goes s (turn left s).state
 turn_sends left s = subst (λ t. Goes s t.state) (sym (turn_is left s)) (case_sends (due s) s.active s.phase left s)
 
-resume_sends : (fs : List Frame) (s : State) → Goes s (resume_from fs s).state
-resume_sends [] s = λ k. k
-resume_sends (Plain ∷ fs) s = λ k. k
-resume_sends (Held b ∷ fs) s = λ k. k
-
-close_sends : (a : Option ℕ) (o : Option Module) (s : State) → Goes s (close_of a o s).state
-close_sends None o s = λ k. k
-close_sends (Some id) None s = λ k. k
-close_sends (Some id) (Some x) s = λ k. k
-
-leave_sends : (b : Bool) (a : Option ℕ) (s : State) → Goes s (leave_if b a s).state
-leave_sends false (Some id) s = λ k. k
-leave_sends _ _ s = λ k. k
-
-settle_by_sends : (a : After) (s : State) → Goes s (settle_by a s).state
-settle_by_sends Resume s = resume_sends s.frames s
-settle_by_sends Close s = close_sends s.active (own_of s.active s.table) s
-settle_by_sends Handler s = λ k. k
-settle_by_sends Next s = leave_sends (in_text (own_of s.active s.table) (pc_of s)) s.active s
-
-settle_in_sends : (p : Phase) (s : State) → Goes s (settle_in p s).state
-settle_in_sends (Run zero) s = settle_by_sends s.after s
-settle_in_sends (Run (suc r)) s = λ k. k
-settle_in_sends (Pad n) s = λ k. k
-
 settle_sends : (s : State) → Goes s (settle s).state
-unfolding settle
-settle_sends s = settle_in_sends s.phase s
+settle_sends s = settle_ways s (λ u. Goes s u.state) (λ k. k) (λ b fs e k. k) (λ id x a o k. k) (λ e k. k) (λ id a k. k)
 
 ticked_none : (s : State) → IsMaybeByte (ticked s).devices.sent
 unfolding ticked
