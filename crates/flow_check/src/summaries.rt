@@ -2,8 +2,7 @@
 //! arms of a branch do hangs on the values that they need: so one walk under a state with little in it serves all
 //! states with more.
 
-ghost use Rattle.std.specs.Prelude.{◌≡◌, ◌≢◌, ◌≤◌, ◌<◌, ◌%◌, ℕ, List, IfSome, IfOk, Some};
-ghost use Rattle.std.specs.Prelude.{None, true, []};
+ghost use Rattle.std.specs.Prelude.{◌≡◌, ◌≢◌, ℕ, List, [], IfSome, IfOk, Some, None, true};
 ghost use Rattle.flow_check.specs.declared.program.Program.{Program};
 ghost use Rattle.flow_check.specs.internal.Points.{addrs_of, point_at};
 ghost use Rattle.flow_check.specs.internal.Programs.{flow, flow_at};

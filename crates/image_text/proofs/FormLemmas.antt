@@ -7,7 +7,7 @@ use Rattle.hex.specs.Hex.{IsBytes, lower_digits, encode_with, encode_lower}
 use Rattle.hex.proofs.HexLemmas.{length-encode_with}
 use Rattle.texts.specs.Hexadecimals.{is_hex_digit, read_hex, read_hex_word}
 use Rattle.texts.proofs.HexLemmas.{read_hex-encode}
-use Rattle.texts.proofs.LawLemmas.{words_are_read, word_bytes}
+use Rattle.texts.proofs.LawLemmas.{word_bytes}
 use Rattle.texts.specs.Hexadecimals.{hex_word}
 use Rattle.image_text.specs.declared.ImageFault.{ImageFault}
 use Rattle.image_text.specs.Refusal.{Spot, fits, has_form, is_bad, bad_digit, formed, digit_value, digits_byte, digits_bytes, digits_word}
