@@ -16,6 +16,14 @@ fn a_copy_is_apart_once_it_is_written(rt: HostRuntime) -> Result<(), Fail> {
     assert_eq!(rt; pool.page(1, 4).get(1).copied(), Some(0x22));
     assert_eq!(rt; pool.page(0, 255).last().copied(), Some(0));
     assert_eq!(rt; pool.page(1, 255).last().copied(), Some(0x33));
+    Ok(())
+}
+
+#[test]
+fn a_table_that_was_dropped_is_free_again(rt: HostRuntime) -> Result<(), Fail> {
+    let mut pool = Pool::new(rt.alloc(), 2)?;
+    let copy = pool.copy_table(0);
+    assert_eq!(rt; copy, Ok(1));
     pool.drop_table(1);
     assert_eq!(rt; pool.copy_table(0), Ok(1));
     Ok(())
