@@ -1,22 +1,20 @@
 -- The laws of texts.
 use Rattle.std.proofs.Common.{ℕ, zero, suc, ◌≡◌, ◌+◌, ◌*◌, ◌/◌, ◌%◌, ◌^◌, ◌<◌, ◌≤◌, true, false, Bool, List, [], ◌∷◌, length, slice_index, Option, Some, None, refl, sym, ap, ◌∙◌, cond, arith, lit<}
 use Rattle.std.proofs.Math.Nat.{pow-le-pow_right}
-use Rattle.std.specs.List.{slice_split, onto_first}
 use Rattle.std.proofs.lemmas.Bool.Decides.{nat_tests}
 use Rattle.std.specs.Option.{option_map}
 use Rattle.std.specs.Fmt.{decimal}
 use Rattle.std.proofs.lemmas.Fmt.{length-decimal-le}
 use Rattle.std.proofs.lemmas.Str.Parse.{digits_value_short}
-use Rattle.std.proofs.lemmas.List.Splits.{slice_split_none}
 use Rattle.std.proofs.lemmas.List.Elements.{All-head, All-tail}
 use Rattle.hex.specs.Hex.{IsBytes, encode_lower}
 use Rattle.texts.specs.Decimals.{number_in, read_decimal}
 use Rattle.texts.specs.Hexadecimals.{hex_byte, hex_word, read_hex, read_hex_byte, read_hex_word, read_hex_key}
-use Rattle.texts.specs.Lines.{is_line_feed, but_last, last_of, ended_lines, unended, lines_text}
+use Rattle.texts.specs.Lines.{is_line_feed, onto_line, onto_end, ended_lines, unended, lines_text}
 use Rattle.texts.specs.Laws.{DecimalsAreRead, DigitsAreCounted, BytesAreRead, WordsAreRead, KeysAreRead, TextsAreLines, LinesAreRead, HasNoFeed}
 use Rattle.texts.proofs.DecimalLemmas.{digits_model, decimal_parts, decimal_of_number, is_decimal-decimal, number_in-decimal, read_decimal-some, read_decimal-parts}
 use Rattle.texts.proofs.HexLemmas.{read_hex-encode, read_hex-parts, hex_byte-is, hex_word-is}
-use Rattle.texts.proofs.LineLemmas.{SomeParts, some_parts, but_last-before, last_of-before, ended_lines-before, unended-before}
+use Rattle.texts.proofs.LineLemmas.{ended_lines-before, unended-before, no_feed}
 
 -- ---- decimals
 
@@ -112,8 +110,7 @@ keys_are_read text key = (
 -- ---- lines
 
 pub lines_are_read : LinesAreRead
-unfolding ended_lines unended
-lines_are_read [] behind all clean = let parts = slice_split_none is_line_feed behind clean in (ap but_last parts, ap last_of parts)
+lines_are_read [] behind all clean = let none = no_feed behind clean in (none.lines, none.behind)
 lines_are_read (line ∷ lines) behind all clean =
     let first = All-head HasNoFeed line lines all in
     let more = lines_are_read lines behind (All-tail HasNoFeed line lines all) clean in (
@@ -126,15 +123,11 @@ unfolding ended_lines unended
 texts_are_lines [] = refl
 texts_are_lines (b ∷ text) = by (is_line_feed b) refl (texts_are_lines text)
   where
-    onto : (parts : List (List ℕ)) → SomeParts parts → lines_text (but_last (onto_first b parts)) (last_of (onto_first b parts)) ≡ b ∷ lines_text (but_last parts) (last_of parts)
-    onto [] s = absurd (let e = s.are in cc)
-    onto (part ∷ []) s = refl
-    onto (part ∷ next ∷ more) s = refl
+    onto : (lines : List (List ℕ)) (behind : List ℕ) → b ∷ lines_text lines behind ≡ lines_text (onto_line b lines) (onto_end b lines behind)
+    onto [] behind = refl
+    onto (line ∷ lines) behind = refl
 
-    by : (c : Bool) → is_line_feed b ≡ c → text ≡ lines_text (but_last (slice_split is_line_feed text)) (last_of (slice_split is_line_feed text)) → b ∷ text ≡ lines_text (but_last (cond c ([] ∷ slice_split is_line_feed text) (onto_first b (slice_split is_line_feed text)))) (last_of (cond c ([] ∷ slice_split is_line_feed text) (onto_first b (slice_split is_line_feed text))))
-    by true e more =
-        let is : b ≡ 10 = grind (arith, nat_tests) in
-        let some = some_parts text in
-        ap (λ c. c ∷ text) is ∙ ap (λ t. 10 ∷ t) more
-        ∙ sym (ap (λ ls. lines_text ls (last_of ([] ∷ slice_split is_line_feed text))) (but_last-before [] (slice_split is_line_feed text) some) ∙ ap (λ t. 10 ∷ lines_text (but_last (slice_split is_line_feed text)) t) (last_of-before [] (slice_split is_line_feed text) some))
-    by false e more = ap (λ t. b ∷ t) more ∙ sym (onto (slice_split is_line_feed text) (some_parts text))
+    by : (c : Bool) → is_line_feed b ≡ c → text ≡ lines_text (ended_lines text) (unended text)
+        → b ∷ text ≡ lines_text (cond c ([] ∷ ended_lines text) (onto_line b (ended_lines text))) (cond c (unended text) (onto_end b (ended_lines text) (unended text)))
+    by true e more = let is : b ≡ 10 = grind (arith, nat_tests) in ap (λ c. c ∷ text) is ∙ ap (λ t. 10 ∷ t) more
+    by false e more = ap (λ t. b ∷ t) more ∙ onto (ended_lines text) (unended text)

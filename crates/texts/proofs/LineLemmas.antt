@@ -1,33 +1,26 @@
 -- Lemmas on the lines of a text.
-use Rattle.std.proofs.Common.{ℕ, ◌≡◌, ◌+◌, ◌-◌, ◌<◌, ◌≤◌, Bool, true, false, cond, List, [], ◌∷◌, ◌++◌, length, take, drop, get_or, Some, None, refl, sym, ap, ◌∙◌, arith, nat_lt, position, subst}
-use Rattle.std.specs.List.{All, slice_split, onto_first, position_or_len, before_first, after_first}
+use Rattle.std.proofs.Common.{ℕ, suc, ◌≡◌, ◌+◌, ◌-◌, ◌<◌, ◌≤◌, Bool, true, false, cond, List, [], ◌∷◌, ◌++◌, length, take, drop, get_or, Some, None, refl, ap, ◌∙◌, arith, nat_lt, position, subst, length-take-le, get_or-take}
+use Rattle.std.specs.List.{All, position_or_len, before_first, after_first}
 use Rattle.std.proofs.lemmas.Bool.Decides.{nat_tests}
 use Rattle.std.proofs.lemmas.Slice.{between_to_end}
-use Rattle.std.proofs.lemmas.List.Splits.{slice_split_first, slice_split_none, slice_split_at}
-use Rattle.std.proofs.lemmas.List.Sums.{split_at_first, passes_at_first, fails_before_first, prefix_len-le-length}
-use Rattle.texts.specs.Lines.{is_line_feed, but_last, last_of, ended_lines, unended, last_line, lines_of}
+use Rattle.std.proofs.lemmas.List.Sums.{split_at_first, passes_at_first, fails_before_first}
+use Rattle.texts.specs.Lines.{is_line_feed, onto_line, onto_end, ended_lines, unended, last_line, lines_of}
 
--- there is always a part
-pub record SomeParts (parts : List (List ℕ)) : Type 0 where
-  pub first : List ℕ
-  pub more : List (List ℕ)
-  pub are : parts ≡ first ∷ more
+-- a line that LF ends, before more text
+pub ended_lines-before : (line rest : List ℕ) → All (λ b. is_line_feed b ≡ false) line → ended_lines (line ++ 10 ∷ rest) ≡ line ∷ ended_lines rest
+unfolding ended_lines
+ended_lines-before [] rest clean = refl
+ended_lines-before (b ∷ line) rest clean =
+    let first : is_line_feed b ≡ false = clean 0 0 (omega arith) in
+    rw first (ap (onto_line b) (ended_lines-before line rest (λ k d l. clean (suc k) d (omega arith))))
 
-pub some_parts : (text : List ℕ) → SomeParts (slice_split is_line_feed text)
-some_parts [] = record { first = []; more = []; are = refl }
-some_parts (b ∷ text) = by (is_line_feed b) (slice_split is_line_feed text)
-  where
-    by : (c : Bool) (parts : List (List ℕ)) → SomeParts (cond c ([] ∷ parts) (onto_first b parts))
-    by true parts = record { first = []; more = parts; are = refl }
-    by false [] = record { first = b ∷ []; more = []; are = refl }
-    by false (part ∷ parts) = record { first = b ∷ part; more = parts; are = refl }
-
--- before parts that are some, a part is none of the last
-pub but_last-before : (part : List ℕ) (parts : List (List ℕ)) → SomeParts parts → but_last (part ∷ parts) ≡ part ∷ but_last parts
-but_last-before part parts s = ap (λ ps. but_last (part ∷ ps)) s.are ∙ ap (λ ps. part ∷ but_last ps) (sym s.are)
-
-pub last_of-before : (part : List ℕ) (parts : List (List ℕ)) → SomeParts parts → last_of (part ∷ parts) ≡ last_of parts
-last_of-before part parts s = ap (λ ps. last_of (part ∷ ps)) s.are ∙ ap last_of (sym s.are)
+pub unended-before : (line rest : List ℕ) → All (λ b. is_line_feed b ≡ false) line → unended (line ++ 10 ∷ rest) ≡ unended rest
+unfolding unended
+unended-before [] rest clean = refl
+unended-before (b ∷ line) rest clean =
+    let first : is_line_feed b ≡ false = clean 0 0 (omega arith) in
+    let more : All (λ b. is_line_feed b ≡ false) line = λ k d l. clean (suc k) d (omega arith) in
+    rw first (ap (λ ls. onto_end b ls (unended (line ++ 10 ∷ rest))) (ended_lines-before line rest more) ∙ unended-before line rest more)
 
 -- a line that ends at the place i
 pub record IsCut (text : List ℕ) (i : ℕ) : Type 0 where
@@ -37,17 +30,21 @@ pub record IsCut (text : List ℕ) (i : ℕ) : Type 0 where
   pub behind : unended text ≡ unended (drop (i + 1) text)
 
 first_cut : (text : List ℕ) → position_or_len is_line_feed text < length text → IsCut text (position_or_len is_line_feed text)
-unfolding ended_lines unended
 first_cut text h =
-    let parts = slice_split_first is_line_feed text 0 h in
-    let some = some_parts (after_first is_line_feed text) in
     let feed : get_or text (position_or_len is_line_feed text) 0 ≡ 10 = let p = passes_at_first is_line_feed text 0 h in grind (arith, nat_tests) in
+    let parts : text ≡ before_first is_line_feed text ++ (10 ∷ after_first is_line_feed text) =
+        split_at_first is_line_feed text 0 h ∙ ap (λ b. before_first is_line_feed text ++ (b ∷ after_first is_line_feed text)) feed in
     record {
       within = h;
-      cut = split_at_first is_line_feed text 0 h ∙ ap (λ b. before_first is_line_feed text ++ (b ∷ after_first is_line_feed text)) feed;
-      lines = ap but_last parts ∙ but_last-before (before_first is_line_feed text) (slice_split is_line_feed (after_first is_line_feed text)) some;
-      behind = ap last_of parts ∙ last_of-before (before_first is_line_feed text) (slice_split is_line_feed (after_first is_line_feed text)) some;
+      cut = parts;
+      lines = ap ended_lines parts ∙ ended_lines-before (before_first is_line_feed text) (after_first is_line_feed text) clean;
+      behind = ap unended parts ∙ unended-before (before_first is_line_feed text) (after_first is_line_feed text) clean;
     }
+  where
+    clean : All (λ b. is_line_feed b ≡ false) (before_first is_line_feed text)
+    clean k d l =
+        let low : k < position_or_len is_line_feed text = omega (arith, length-take-le (position_or_len is_line_feed text) text (omega arith)) in
+        ap is_line_feed (get_or-take (position_or_len is_line_feed text) text k d low) ∙ fails_before_first is_line_feed text k d low
 
 pub cut_at : (text : List ℕ) (i : ℕ) → position is_line_feed text ≡ Some i → IsCut text i
 cut_at text i e = by (nat_lt (position_or_len is_line_feed text) (length text)) refl e
@@ -61,11 +58,16 @@ pub record HasNoLine (text : List ℕ) : Type 0 where
   pub lines : ended_lines text ≡ []
   pub behind : unended text ≡ text
 
-no_feed : (text : List ℕ) → position_or_len is_line_feed text ≡ length text → HasNoLine text
+pub no_feed : (text : List ℕ) → All (λ b. is_line_feed b ≡ false) text → HasNoLine text
 unfolding ended_lines unended
-no_feed text e =
-    let parts = slice_split_none is_line_feed text (λ k d l. fails_before_first is_line_feed text k d (omega arith)) in
-    record { lines = ap but_last parts; behind = ap last_of parts }
+no_feed [] clean = record { lines = refl; behind = refl }
+no_feed (b ∷ text) clean =
+    let first : is_line_feed b ≡ false = clean 0 0 (omega arith) in
+    let more = no_feed text (λ k d l. clean (suc k) d (omega arith)) in
+    record {
+      lines = rw first (ap (onto_line b) more.lines);
+      behind = rw first (ap (λ ls. onto_end b ls (unended text)) more.lines ∙ ap (λ t. b ∷ t) more.behind);
+    }
 
 -- what the slice behind a line that ends at i is
 pub rest_at : (text : List ℕ) (i : ℕ) → take (length text - (i + 1)) (drop (i + 1) text) ≡ drop (i + 1) text
@@ -85,20 +87,12 @@ no_line text e = by (nat_lt (position_or_len is_line_feed text) (length text)) r
   where
     by : (c : Bool) → nat_lt (position_or_len is_line_feed text) (length text) ≡ c → cond c (Some (position_or_len is_line_feed text)) None ≡ None → HasNoLine text
     by true is some = absurd cc
-    by false is none = no_feed text (let most = prefix_len-le-length (λ b. cond (is_line_feed b) false true) text in grind (arith, nat_tests))
+    by false is none =
+        let past : length text ≤ position_or_len is_line_feed text = grind (arith, nat_tests) in
+        no_feed text (λ k d l. fails_before_first is_line_feed text k d (omega arith))
 
 -- nothing has no line
 pub lines_of-empty : (text : List ℕ) → length text ≡ 0 → lines_of text ≡ []
 unfolding ended_lines unended
 lines_of-empty [] e = refl
 lines_of-empty (b ∷ text) e = absurd (omega arith)
-
--- a line that LF ends, before more text
-module _ (line rest : List ℕ) (clean : All (λ b. is_line_feed b ≡ false) line) where
-  pub ended_lines-before : ended_lines (line ++ 10 ∷ rest) ≡ line ∷ ended_lines rest
-  unfolding ended_lines
-  ended_lines-before = ap but_last (slice_split_at is_line_feed line 10 rest clean refl) ∙ but_last-before line (slice_split is_line_feed rest) (some_parts rest)
-
-  pub unended-before : unended (line ++ 10 ∷ rest) ≡ unended rest
-  unfolding unended
-  unended-before = ap last_of (slice_split_at is_line_feed line 10 rest clean refl) ∙ last_of-before line (slice_split is_line_feed rest) (some_parts rest)

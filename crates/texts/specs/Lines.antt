@@ -1,30 +1,29 @@
 -- The lines of a text, each without the LF that ends it.
-use Rattle.std.specs.Prelude.{ℕ, ◌==◌, Bool, List, [], ◌∷◌, ◌++◌}
-use Rattle.std.specs.List.{slice_split}
+use Rattle.std.specs.Prelude.{ℕ, ◌==◌, Bool, if◌then◌else◌, List, [], ◌∷◌, ◌++◌}
 
 -- LF is 10
 abbrev pub is_line_feed : ℕ → Bool
 is_line_feed b = b == 10
 
--- all parts but the last
-abbrev pub but_last : List (List ℕ) → List (List ℕ)
-but_last [] = []
-but_last (last ∷ []) = []
-but_last (part ∷ next ∷ more) = part ∷ but_last (next ∷ more)
-
--- the last part
-abbrev pub last_of : List (List ℕ) → List ℕ
-last_of [] = []
-last_of (last ∷ []) = last
-last_of (part ∷ next ∷ more) = last_of (next ∷ more)
+-- a byte before the lines of what follows it: it begins the first, where LF ends one
+abbrev pub onto_line : ℕ → List (List ℕ) → List (List ℕ)
+onto_line b [] = []
+onto_line b (line ∷ lines) = (b ∷ line) ∷ lines
 
 -- the lines that LF ends
 unfoldable pub ended_lines : List ℕ → List (List ℕ)
-ended_lines text = but_last (slice_split is_line_feed text)
+ended_lines [] = []
+ended_lines (b ∷ text) = if is_line_feed b then [] ∷ ended_lines text else onto_line b (ended_lines text)
+
+-- a byte before what stands behind the last LF: it is part of that, where LF ends no line
+abbrev pub onto_end : ℕ → List (List ℕ) → List ℕ → List ℕ
+onto_end b [] behind = b ∷ behind
+onto_end b (line ∷ lines) behind = behind
 
 -- what stands behind the last LF
 unfoldable pub unended : List ℕ → List ℕ
-unended text = last_of (slice_split is_line_feed text)
+unended [] = []
+unended (b ∷ text) = if is_line_feed b then unended text else onto_end b (ended_lines text) (unended text)
 
 -- a last line that lacks its LF, where there is one
 abbrev pub last_line : List ℕ → List (List ℕ)
