@@ -5,7 +5,7 @@ use Rattle.std.proofs.lemmas.Bool.Decides.{nat_tests}
 use Rattle.std.proofs.lemmas.Bool.{and_parts, not-false}
 use Rattle.hex.specs.Hex.{IsBytes, lower_digits, encode_with, encode_lower}
 use Rattle.hex.proofs.HexLemmas.{length-encode_with}
-use Rattle.texts.specs.Hexadecimals.{is_hex_digit, read_hex, read_hex_word}
+use Rattle.texts.specs.Hexadecimals.{is_hex_digit, number_of_bytes, read_hex, read_hex_word}
 use Rattle.texts.proofs.HexLemmas.{read_hex-encode}
 use Rattle.texts.proofs.LawLemmas.{word_bytes}
 use Rattle.texts.specs.Hexadecimals.{hex_word}
@@ -224,6 +224,9 @@ word_here line rest from w l e =
 pub coded_read : (line : List ℕ) (from n : ℕ) → CodedAt line from n → read_hex n (slice_range line from (from + 2 * n)) ≡ Some (digits_bytes from n line)
 coded_read line from n c = ap (read_hex n) c.text ∙ read_hex-encode n (digits_bytes from n line) c.count c.are_bytes
 
+two_bytes : (high low : ℕ) → number_of_bytes (high ∷ low ∷ []) ≡ 256 * high + low
+two_bytes high low = omega arith
+
 pub word_read : (line : List ℕ) (from : ℕ) → CodedAt line from 2 → read_hex_word (slice_range line from (from + 4)) ≡ Some (digits_word from line)
 unfolding digits_word digits_bytes
-word_read line from c = ap (option_map (λ bytes. 256 * slice_index bytes 0 + slice_index bytes 1)) (coded_read line from 2 c)
+word_read line from c = ap (option_map number_of_bytes) (coded_read line from 2 c) ∙ ap Some (two_bytes (digits_byte from line) (digits_byte (from + 2) line))

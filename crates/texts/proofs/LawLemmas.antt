@@ -1,5 +1,5 @@
 -- The laws of texts.
-use Rattle.std.proofs.Common.{ℕ, zero, suc, ◌≡◌, ◌+◌, ◌*◌, ◌/◌, ◌%◌, ◌^◌, ◌<◌, ◌≤◌, true, false, Bool, List, [], ◌∷◌, length, slice_index, Option, Some, None, refl, sym, ap, ◌∙◌, cond, arith, lit<}
+use Rattle.std.proofs.Common.{ℕ, zero, suc, ◌≡◌, ◌/◌, ◌%◌, ◌^◌, ◌<◌, ◌≤◌, true, false, Bool, List, [], ◌∷◌, length, Option, Some, None, refl, sym, ap, ◌∙◌, cond, arith, lit<}
 use Rattle.std.proofs.Math.Nat.{pow-le-pow_right}
 use Rattle.std.proofs.lemmas.Bool.Decides.{nat_tests}
 use Rattle.std.specs.Option.{option_map}
@@ -9,7 +9,7 @@ use Rattle.std.proofs.lemmas.Str.Parse.{digits_value_short}
 use Rattle.std.proofs.lemmas.List.Elements.{All-head, All-tail}
 use Rattle.hex.specs.Hex.{IsBytes, encode_lower}
 use Rattle.texts.specs.Decimals.{number_in, read_decimal}
-use Rattle.texts.specs.Hexadecimals.{hex_byte, hex_word, read_hex, read_hex_byte, read_hex_word, read_hex_key}
+use Rattle.texts.specs.Hexadecimals.{hex_byte, hex_word, number_of_bytes, read_hex, read_hex_byte, read_hex_word, read_hex_key}
 use Rattle.texts.specs.Lines.{is_line_feed, onto_line, onto_end, ended_lines, unended, lines_text}
 use Rattle.texts.specs.Laws.{DecimalsAreRead, DigitsAreCounted, BytesAreRead, WordsAreRead, KeysAreRead, TextsAreLines, LinesAreRead, HasNoFeed}
 use Rattle.texts.proofs.DecimalLemmas.{digits_model, decimal_parts, decimal_of_number, is_decimal-decimal, number_in-decimal, read_decimal-some, read_decimal-parts}
@@ -49,9 +49,12 @@ digits_are_counted text n e some few = (from, to)
 
 -- ---- hexadecimals
 
-head_byte : (bytes : List ℕ) (byte : ℕ) → length bytes ≡ 1 → slice_index bytes 0 ≡ byte → bytes ≡ byte ∷ []
-head_byte (b ∷ []) byte l e = ap (λ c. c ∷ []) e
-head_byte _ byte l e = absurd (omega arith)
+a_byte : (bytes : List ℕ) (byte : ℕ) → length bytes ≡ 1 → IsBytes bytes → number_of_bytes bytes ≡ byte → (byte < 256) × (bytes ≡ byte ∷ [])
+a_byte (b ∷ []) byte l are e =
+    let low : b < 256 = are 0 in
+    let same : b ≡ byte = omega arith in
+    (omega arith, ap (λ c. c ∷ []) same)
+a_byte _ byte l are e = absurd (omega arith)
 
 one_byte : (byte : ℕ) → byte < 256 → IsBytes (byte ∷ [])
 one_byte byte l zero = l
@@ -60,18 +63,20 @@ one_byte byte l (suc k) = omega arith
 pub bytes_are_read : BytesAreRead
 bytes_are_read text byte = (λ e. from (read_hex 1 text) refl e, λ h. to h.0 h.1)
   where
-    from : (o : Option (List ℕ)) → read_hex 1 text ≡ o → option_map (λ bytes. slice_index bytes 0) o ≡ Some byte → (byte < 256) × (text ≡ hex_byte byte)
+    from : (o : Option (List ℕ)) → read_hex 1 text ≡ o → option_map number_of_bytes o ≡ Some byte → (byte < 256) × (text ≡ hex_byte byte)
     from None is e = absurd cc
     from (Some bytes) is e =
         let r = read_hex-parts 1 text bytes is in
-        let same : slice_index bytes 0 ≡ byte = cc in
-        let small : slice_index bytes 0 < 256 = r.are 0 in
-        (omega arith, r.is ∙ ap encode_lower (head_byte bytes byte r.long same) ∙ hex_byte-is byte)
+        let same : number_of_bytes bytes ≡ byte = cc in
+        let one = a_byte bytes byte r.long r.are same in
+        (one.0, r.is ∙ ap encode_lower one.1 ∙ hex_byte-is byte)
 
     to : byte < 256 → text ≡ hex_byte byte → read_hex_byte text ≡ Some byte
-    to small e = ap read_hex_byte (e ∙ sym (hex_byte-is byte)) ∙ ap (option_map (λ bytes. slice_index bytes 0)) (read_hex-encode 1 (byte ∷ []) refl (one_byte byte small))
+    to small e =
+        let same : number_of_bytes (byte ∷ []) ≡ byte = omega arith in
+        ap read_hex_byte (e ∙ sym (hex_byte-is byte)) ∙ ap (option_map number_of_bytes) (read_hex-encode 1 (byte ∷ []) refl (one_byte byte small)) ∙ ap Some same
 
-two_bytes : (bytes : List ℕ) (word : ℕ) → length bytes ≡ 2 → IsBytes bytes → 256 * slice_index bytes 0 + slice_index bytes 1 ≡ word
+two_bytes : (bytes : List ℕ) (word : ℕ) → length bytes ≡ 2 → IsBytes bytes → number_of_bytes bytes ≡ word
     → (word < 65536) × (bytes ≡ word / 256 ∷ word % 256 ∷ [])
 two_bytes (a ∷ b ∷ []) word l are e =
     let la : a < 256 = are 0 in
@@ -88,18 +93,18 @@ word_bytes word l (suc k) = one_byte (word % 256) (omega arith) k
 pub words_are_read : WordsAreRead
 words_are_read text word = (λ e. from (read_hex 2 text) refl e, λ h. to h.0 h.1)
   where
-    from : (o : Option (List ℕ)) → read_hex 2 text ≡ o → option_map (λ bytes. 256 * slice_index bytes 0 + slice_index bytes 1) o ≡ Some word → (word < 65536) × (text ≡ hex_word word)
+    from : (o : Option (List ℕ)) → read_hex 2 text ≡ o → option_map number_of_bytes o ≡ Some word → (word < 65536) × (text ≡ hex_word word)
     from None is e = absurd cc
     from (Some bytes) is e =
         let r = read_hex-parts 2 text bytes is in
-        let same : 256 * slice_index bytes 0 + slice_index bytes 1 ≡ word = cc in
+        let same : number_of_bytes bytes ≡ word = cc in
         let two = two_bytes bytes word r.long r.are same in
         (two.0, r.is ∙ ap encode_lower two.1 ∙ hex_word-is word)
 
     to : word < 65536 → text ≡ hex_word word → read_hex_word text ≡ Some word
     to small e =
-        let joined : 256 * (word / 256) + word % 256 ≡ word = omega arith in
-        ap read_hex_word (e ∙ sym (hex_word-is word)) ∙ ap (option_map (λ bytes. 256 * slice_index bytes 0 + slice_index bytes 1)) (read_hex-encode 2 (word / 256 ∷ word % 256 ∷ []) refl (word_bytes word small)) ∙ ap Some joined
+        let joined : number_of_bytes (word / 256 ∷ word % 256 ∷ []) ≡ word = omega arith in
+        ap read_hex_word (e ∙ sym (hex_word-is word)) ∙ ap (option_map number_of_bytes) (read_hex-encode 2 (word / 256 ∷ word % 256 ∷ []) refl (word_bytes word small)) ∙ ap Some joined
 
 pub keys_are_read : KeysAreRead
 keys_are_read text key = (

@@ -1,6 +1,6 @@
 -- Hexadecimal digits of lower case, two a byte, the high four bits first.
 use Rattle.std.specs.Prelude.{ℕ, ◌+◌, ◌*◌, ◌/◌, ◌%◌, Bool, ◌&&◌, ◌||◌, nat_le, if◌then◌else◌, List, [], ◌∷◌, ◌++◌, slice_index, Option, None, option_map}
-use Rattle.std.specs.List.{list_all}
+use Rattle.std.specs.List.{list_all, fold}
 use Rattle.std.specs.Result.{result_ok}
 use Rattle.hex.specs.Hex.{lower_digits, encode_lower, decode_sized}
 
@@ -28,13 +28,17 @@ is_hex_digit b = (nat_le 48 b && nat_le b 57) || (nat_le 97 b && nat_le b 102)
 unfoldable pub read_hex : ℕ → List ℕ → Option (List ℕ)
 read_hex count text = if list_all is_hex_digit text then result_ok (decode_sized text count) else None
 
+-- the number that bytes write, the high one first
+abbrev pub number_of_bytes : List ℕ → ℕ
+number_of_bytes bytes = fold (λ number byte. 256 * number + byte) 0 bytes
+
 -- the byte of two digits
 abbrev pub read_hex_byte : List ℕ → Option ℕ
-read_hex_byte text = option_map (λ bytes. slice_index bytes 0) (read_hex 1 text)
+read_hex_byte text = option_map number_of_bytes (read_hex 1 text)
 
 -- the word of four digits
 abbrev pub read_hex_word : List ℕ → Option ℕ
-read_hex_word text = option_map (λ bytes. 256 * slice_index bytes 0 + slice_index bytes 1) (read_hex 2 text)
+read_hex_word text = option_map number_of_bytes (read_hex 2 text)
 
 -- the key of 32 digits
 abbrev pub read_hex_key : List ℕ → Option (List ℕ)
