@@ -1,5 +1,5 @@
 -- The lines of a trace are read as what they tell.
-use Rattle.std.proofs.Common.{ℕ, zero, suc, ◌≡◌, ◌+◌, ◌-◌, ◌^◌, ◌<◌, Bool, true, false, ◌&&◌, List, [], ◌∷◌, ◌++◌, length, drop, replicate, Option, Some, Ok, codes, refl, ap, sym, subst, ◌∙◌, append_assoc, length-append, arith}
+use Rattle.std.proofs.Common.{ℕ, zero, suc, ◌≡◌, ◌+◌, ◌-◌, ◌^◌, ◌<◌, Bool, true, false, ◌&&◌, List, [], ◌∷◌, ◌++◌, length, drop, replicate, Option, Some, None, option_and_then, Ok, codes, refl, ap, sym, subst, ◌∙◌, append_assoc, length-append, arith}
 use Rattle.std.specs.Prelude.{find, is_some}
 use Rattle.std.specs.List.{All}
 use Rattle.std.specs.Option.{option_to_list}
@@ -29,7 +29,7 @@ use Rattle.vendor_tool.specs.declared.trace_line.Word.TheVariants.{Address, Rule
 use Rattle.texts.specs.Words.{is_space, words}
 use Rattle.vendor_tool.specs.Laws.{TimedEvent, IsTold, IsEndState, events_text, sent_in, sent, TracesAreRead}
 use Rattle.texts.specs.Rows.{after_these}
-use Rattle.vendor_tool.specs.Replies.{last_byte, sent_by, ends, at_end, by_end, from_kind, replies_from, replies_of}
+use Rattle.vendor_tool.specs.Replies.{last_byte, tells_byte, with_byte, told_by, ends, at_end, by_end, from_told, replies_from, replies_of}
 use Rattle.vendor_tool.proofs.Plain.{IsPlain, decimal_plain, byte_plain, word_plain, each, no_space, no_feed}
 use Rattle.vendor_tool.specs.TraceLines.{fits_word, all_fit, kind_form, line_kinds, kind_of}
 
@@ -119,9 +119,10 @@ module _ (c : List ℕ) (cycle : is_decimal c ≡ true) where
 -- what a line is read as
 record Reads (line : List ℕ) (end : Bool) (bytes : List ℕ) : Type 0 where
   kind : Kind
-  is : kind_of line ≡ Some kind
+  byte : Option ℕ
+  is : told_by line ≡ Some (kind, byte)
   ends_so : ends kind ≡ end
-  sent_so : sent_by kind line ≡ bytes
+  sent_so : option_to_list byte ≡ bytes
   clean : HasNoFeed line
 
 -- a line of these words
@@ -133,12 +134,21 @@ record IsJoined (line : List ℕ) (kind : Kind) : Type 0 where
   more_plain : ArePlain more
   is : kind_by (first ∷ more) ≡ Some kind
 
-reads : (line : List ℕ) (kind : Kind) (end : Bool) (bytes : List ℕ) → IsJoined line kind → ends kind ≡ end → sent_by kind line ≡ bytes → Reads line end bytes
-reads line kind end bytes j e s = record {
+-- what a line of this kind tells
+abbrev tells : Kind → List ℕ → Option (Kind × Option ℕ)
+tells kind line = with_byte kind (tells_byte kind) (last_byte line)
+
+told_is : (line : List ℕ) (kind : Kind) (byte : Option ℕ) → kind_of line ≡ Some kind → tells kind line ≡ Some (kind, byte) → told_by line ≡ Some (kind, byte)
+unfolding told_by
+told_is line kind byte is telling = ap (option_and_then (λ (k : Kind). tells k line)) is ∙ telling
+
+reads : (line : List ℕ) (kind : Kind) (end : Bool) (byte : Option ℕ) → IsJoined line kind → ends kind ≡ end → tells kind line ≡ Some (kind, byte) → Reads line end (option_to_list byte)
+reads line kind end byte j e telling = record {
   kind = kind;
-  is = kind_is line (j.first ∷ j.more) kind (ap words j.joins ∙ words-joined j.first j.more j.first_plain j.more_plain) j.is;
+  byte = byte;
+  is = told_is line kind byte (kind_is line (j.first ∷ j.more) kind (ap words j.joins ∙ words-joined j.first j.more j.first_plain j.more_plain) j.is) telling;
   ends_so = e;
-  sent_so = s;
+  sent_so = refl;
   clean = subst HasNoFeed (sym j.joins) (no_feed-joined j.first j.more j.first_plain j.more_plain);
 }
 
@@ -155,9 +165,9 @@ drop_front xs ys two =
     by [] = refl
     by (x ∷ xs) = by xs
 
-out_byte : (c byte : ℕ) → byte < 256 → sent_by Out (event_words c (EOut byte)) ≡ byte ∷ []
+out_byte : (c byte : ℕ) → byte < 256 → tells Out (event_words c (EOut byte)) ≡ Some (Out, Some byte)
 out_byte c byte small =
-    ap (λ o. option_to_list o)
+    ap (with_byte Out true)
     (ap last_byte (sym (append_assoc (decimal c ++ codes " ") (codes "out ") (hex_byte byte)))
     ∙ ap read_hex_byte (drop_front ((decimal c ++ codes " ") ++ codes "out ") (hex_byte byte) refl)
     ∙ (bytes_are_read (hex_byte byte) byte).1 (small, refl))
@@ -167,53 +177,53 @@ stop_joined : (c r p a m : List ℕ) → c ++ codes " " ++ (codes "stop " ++ r +
 stop_joined c r p a m = simp append_assoc
 
 -- an event's line, by the words after its cycle
-told : (c : ℕ) (e : Event) (kind : Kind) (bytes : List ℕ) (more : List (List ℕ)) → c < 2 ^ 64
-    → event_words c e ≡ joined (decimal c) more → ArePlain more → kind_by (decimal c ∷ more) ≡ Some kind → ends kind ≡ false → sent_by kind (event_words c e) ≡ bytes
-    → Reads (event_words c e) false bytes
-told c e kind bytes more low joins plain is goes_on sent =
-    reads _ kind false bytes (record { first = decimal c; more = more; joins = joins; first_plain = decimal_plain c low; more_plain = plain; is = is }) goes_on sent
+told : (c : ℕ) (e : Event) (kind : Kind) (byte : Option ℕ) (more : List (List ℕ)) → c < 2 ^ 64
+    → event_words c e ≡ joined (decimal c) more → ArePlain more → kind_by (decimal c ∷ more) ≡ Some kind → ends kind ≡ false → tells kind (event_words c e) ≡ Some (kind, byte)
+    → Reads (event_words c e) false (option_to_list byte)
+told c e kind byte more low joins plain is goes_on telling =
+    reads _ kind false byte (record { first = decimal c; more = more; joins = joins; first_plain = decimal_plain c low; more_plain = plain; is = is }) goes_on telling
 
 event_reads : (c : ℕ) (e : Event) → c < 2 ^ 64 → IsEvent e → Reads (event_words c e) false (sent_in e)
 event_reads c (EResume id) low h =
-    told c (EResume id) Resume [] (codes "resume" ∷ decimal id ∷ []) low (simp append_assoc) (refl, (decimal_plain id (omega arith), tt))
+    told c (EResume id) Resume None (codes "resume" ∷ decimal id ∷ []) low (simp append_assoc) (refl, (decimal_plain id (omega arith), tt))
     (one_number (decimal c) (is_decimal-decimal c low) (decimal id) (is_decimal-decimal id (omega arith))).0 refl refl
 event_reads c (EClose id) low h =
-    told c (EClose id) Close [] (codes "close" ∷ decimal id ∷ []) low (simp append_assoc) (refl, (decimal_plain id (omega arith), tt))
+    told c (EClose id) Close None (codes "close" ∷ decimal id ∷ []) low (simp append_assoc) (refl, (decimal_plain id (omega arith), tt))
     (one_number (decimal c) (is_decimal-decimal c low) (decimal id) (is_decimal-decimal id (omega arith))).1 refl refl
 event_reads c (EHandler pc) low h =
-    told c (EHandler pc) Handler [] (codes "handler" ∷ codes "pc" ∷ hex_word pc ∷ []) low (simp append_assoc) (refl, (refl, (word_plain pc h, tt)))
+    told c (EHandler pc) Handler None (codes "handler" ∷ codes "pc" ∷ hex_word pc ∷ []) low (simp append_assoc) (refl, (refl, (word_plain pc h, tt)))
     (handler (decimal c) (is_decimal-decimal c low) (hex_word pc) (address pc h)) refl refl
 event_reads c (ELeave id pc) low h =
     let small = h.0 in
-    told c (ELeave id pc) Leave [] (codes "leave" ∷ decimal id ∷ codes "pc" ∷ hex_word pc ∷ []) low (simp append_assoc) (refl, (decimal_plain id (omega arith), (refl, (word_plain pc h.1, tt))))
+    told c (ELeave id pc) Leave None (codes "leave" ∷ decimal id ∷ codes "pc" ∷ hex_word pc ∷ []) low (simp append_assoc) (refl, (decimal_plain id (omega arith), (refl, (word_plain pc h.1, tt))))
     (leave (decimal c) (is_decimal-decimal c low) (decimal id) (hex_word pc) (is_decimal-decimal id (omega arith)) (address pc h.1)) refl refl
 event_reads c (EHide id vector) low h =
     let small = h.0 in
     let few = h.1 in
-    told c (EHide id vector) Hide [] (codes "hide" ∷ decimal id ∷ codes "vector" ∷ decimal vector ∷ []) low (simp append_assoc) (refl, (decimal_plain id (omega arith), (refl, (decimal_plain vector (omega arith), tt))))
+    told c (EHide id vector) Hide None (codes "hide" ∷ decimal id ∷ codes "vector" ∷ decimal vector ∷ []) low (simp append_assoc) (refl, (decimal_plain id (omega arith), (refl, (decimal_plain vector (omega arith), tt))))
     (hide (decimal c) (is_decimal-decimal c low) (decimal id) (decimal vector) (is_decimal-decimal id (omega arith)) (is_decimal-decimal vector (omega arith))) refl refl
 event_reads c (EIrq vector) low h =
-    told c (EIrq vector) Irq [] (codes "irq" ∷ decimal vector ∷ []) low (simp append_assoc) (refl, (decimal_plain vector (omega arith), tt))
+    told c (EIrq vector) Irq None (codes "irq" ∷ decimal vector ∷ []) low (simp append_assoc) (refl, (decimal_plain vector (omega arith), tt))
     (one_number (decimal c) (is_decimal-decimal c low) (decimal vector) (is_decimal-decimal vector (omega arith))).2 refl refl
 event_reads c (EEnter id from) low h =
     let small = h.0 in
     let few = h.1 in
-    told c (EEnter id from) Enter [] (codes "enter" ∷ decimal id ∷ codes "from" ∷ decimal from ∷ []) low (simp append_assoc) (refl, (decimal_plain id (omega arith), (refl, (decimal_plain from (omega arith), tt))))
+    told c (EEnter id from) Enter None (codes "enter" ∷ decimal id ∷ codes "from" ∷ decimal from ∷ []) low (simp append_assoc) (refl, (decimal_plain id (omega arith), (refl, (decimal_plain from (omega arith), tt))))
     (enter (decimal c) (is_decimal-decimal c low) (decimal id) (decimal from) (is_decimal-decimal id (omega arith)) (is_decimal-decimal from (omega arith))) refl refl
 event_reads c EReti low h =
-    told c EReti Reti [] (codes "reti" ∷ []) low (simp append_assoc) (refl, tt)
+    told c EReti Reti None (codes "reti" ∷ []) low (simp append_assoc) (refl, tt)
     (reti (decimal c) (is_decimal-decimal c low)) refl refl
 event_reads c (EProtect id) low h =
-    told c (EProtect id) Protect [] (codes "protect" ∷ decimal id ∷ []) low (simp append_assoc) (refl, (decimal_plain id (omega arith), tt))
+    told c (EProtect id) Protect None (codes "protect" ∷ decimal id ∷ []) low (simp append_assoc) (refl, (decimal_plain id (omega arith), tt))
     (one_number (decimal c) (is_decimal-decimal c low) (decimal id) (is_decimal-decimal id (omega arith))).3 refl refl
 event_reads c (EOut byte) low h =
-    told c (EOut byte) Out (byte ∷ []) (codes "out" ∷ hex_byte byte ∷ []) low (simp append_assoc) (refl, (byte_plain byte h, tt))
+    told c (EOut byte) Out (Some byte) (codes "out" ∷ hex_byte byte ∷ []) low (simp append_assoc) (refl, (byte_plain byte h, tt))
     (out (decimal c) (is_decimal-decimal c low) (hex_byte byte) (byte_word byte h)) refl (out_byte c byte h)
 event_reads c (EStop s) low h =
     let pc = h.pc in
     let addr = h.addr in
     let id = h.«module» in
-    told c (EStop s) Stop [] (codes "stop" ∷ rule_name s.rule ∷ codes "pc" ∷ hex_word s.pc ∷ codes "addr" ∷ hex_word s.addr ∷ codes "module" ∷ decimal s.«module» ∷ []) low (stop_joined (decimal c) (rule_name s.rule) (hex_word s.pc) (hex_word s.addr) (decimal s.«module»)) (refl, (rule_plain s.rule, (refl, (word_plain s.pc pc, (refl, (word_plain s.addr addr, (refl, (decimal_plain s.«module» (omega arith), tt))))))))
+    told c (EStop s) Stop None (codes "stop" ∷ rule_name s.rule ∷ codes "pc" ∷ hex_word s.pc ∷ codes "addr" ∷ hex_word s.addr ∷ codes "module" ∷ decimal s.«module» ∷ []) low (stop_joined (decimal c) (rule_name s.rule) (hex_word s.pc) (hex_word s.addr) (decimal s.«module»)) (refl, (rule_plain s.rule, (refl, (word_plain s.pc pc, (refl, (word_plain s.addr addr, (refl, (decimal_plain s.«module» (omega arith), tt))))))))
     (stop (decimal c) (is_decimal-decimal c low) (rule_name s.rule) (hex_word s.pc) (hex_word s.addr) (decimal s.«module») (a_rule s.rule) (address s.pc pc) (address s.addr addr) (is_decimal-decimal s.«module» (omega arith))) refl refl
 
 -- ---- the end line
@@ -241,7 +251,7 @@ end_words c e = codes "end " ++ decimal c ++ codes " " ++ end_text e
 
 end_reads : (c : ℕ) (e : EndState) → c < 2 ^ 64 → IsEndState e → Reads (end_words c e) true []
 end_reads c EndsStopped low h =
-    reads _ Stopped true [] (record {
+    reads _ Stopped true None (record {
       first = codes "end";
       more = decimal c ∷ codes "stopped" ∷ [];
       joins = simp append_assoc;
@@ -250,7 +260,7 @@ end_reads c EndsStopped low h =
       is = stopped (decimal c) (is_decimal-decimal c low);
     }) refl refl
 end_reads c (EndsInside id) low h =
-    reads _ Inside true [] (record {
+    reads _ Inside true None (record {
       first = codes "end";
       more = decimal c ∷ codes "inside" ∷ decimal id ∷ [];
       joins = simp append_assoc;
@@ -259,7 +269,7 @@ end_reads c (EndsInside id) low h =
       is = inside (decimal c) (is_decimal-decimal c low) (decimal id) (is_decimal-decimal id (omega arith));
     }) refl refl
 end_reads c (EndsOutside core) low h =
-    reads _ Outside true [] (record {
+    reads _ Outside true None (record {
       first = codes "end";
       more = decimal c ∷ codes "outside" ∷ register_words core 0 16;
       joins = outside_joined c (registers_from core 0 16) (register_words core 0 16) (registers_joined core 0 16 (codes "outside"));
@@ -280,8 +290,8 @@ line_read : (n : ℕ) (line rest bytes more : List ℕ) → Reads line false byt
 line_read n line rest bytes more r next =
     ap (λ ls. replies_from n ls (unended (line ++ 10 ∷ rest))) (ended_lines-before line rest r.clean)
     ∙ ap (λ t. replies_from n (line ∷ ended_lines rest) t) (unended-before line rest r.clean)
-    ∙ ap (λ k. from_kind n k line (at_end (n + 1) (ended_lines rest) (unended rest)) (replies_from (n + 1) (ended_lines rest) (unended rest))) r.is
-    ∙ ap (λ e. by_end e (sent_by r.kind line) (at_end (n + 1) (ended_lines rest) (unended rest)) (replies_from (n + 1) (ended_lines rest) (unended rest))) r.ends_so
+    ∙ ap (λ k. from_told n k (at_end (n + 1) (ended_lines rest) (unended rest)) (replies_from (n + 1) (ended_lines rest) (unended rest))) r.is
+    ∙ ap (λ e. by_end e r.byte (at_end (n + 1) (ended_lines rest) (unended rest)) (replies_from (n + 1) (ended_lines rest) (unended rest))) r.ends_so
     ∙ ap (λ bs. after_these bs (replies_from (n + 1) (ended_lines rest) (unended rest))) r.sent_so
     ∙ ap (after_these bytes) next
 
@@ -293,8 +303,8 @@ last_read : (n : ℕ) (line : List ℕ) → Reads line true [] → replies_from 
 last_read n line r =
     ap (λ ls. replies_from n ls (unended (line ++ 10 ∷ []))) (ended_lines-before line [] r.clean)
     ∙ ap (λ t. replies_from n (line ∷ ended_lines []) t) (unended-before line [] r.clean)
-    ∙ ap (λ k. from_kind n k line (at_end (n + 1) (ended_lines []) (unended [])) (replies_from (n + 1) (ended_lines []) (unended []))) r.is
-    ∙ ap (λ e. by_end e (sent_by r.kind line) (at_end (n + 1) (ended_lines []) (unended [])) (replies_from (n + 1) (ended_lines []) (unended []))) r.ends_so
+    ∙ ap (λ k. from_told n k (at_end (n + 1) (ended_lines []) (unended [])) (replies_from (n + 1) (ended_lines []) (unended []))) r.is
+    ∙ ap (λ e. by_end e r.byte (at_end (n + 1) (ended_lines []) (unended [])) (replies_from (n + 1) (ended_lines []) (unended []))) r.ends_so
     ∙ nothing_after (n + 1)
 
 event_line_is : (e : TimedEvent) (rest : List ℕ) → event_line e.cycle e.event ++ rest ≡ event_words e.cycle e.event ++ 10 ∷ rest

@@ -1,5 +1,5 @@
 -- What reading a trace keeps from line to line.
-use Rattle.std.proofs.Common.{ℕ, ◌≡◌, ◌+◌, ◌<◌, ◌≤◌, Bool, true, false, List, [], ◌∷◌, ◌++◌, length, Some, Result, Ok, Err, refl, ap, sym, ◌∙◌, append_assoc, length-append, arith}
+use Rattle.std.proofs.Common.{ℕ, ◌≡◌, ◌+◌, ◌<◌, ◌≤◌, Bool, true, false, List, [], ◌∷◌, ◌++◌, length, Option, Some, option_to_list, Result, Ok, Err, refl, ap, sym, ◌∙◌, append_assoc, length-append, arith}
 use Rattle.std.proofs.lemmas.List.{append-nil}
 use Rattle.texts.specs.Lines.{ended_lines, unended, lines_text}
 use Rattle.texts.proofs.LawLemmas.{texts_are_lines}
@@ -7,8 +7,7 @@ use Rattle.vendor_tool.specs.declared.TraceFault.{TraceFault}
 use Rattle.vendor_tool.specs.declared.TraceFault.TheVariants.{Line}
 use Rattle.vendor_tool.specs.declared.trace_line.Kind.{Kind}
 use Rattle.texts.specs.Rows.{after_these}
-use Rattle.vendor_tool.specs.Replies.{sent_by, ends, at_end, by_end, from_kind, replies_from, replies_of}
-use Rattle.vendor_tool.specs.TraceLines.{kind_of}
+use Rattle.vendor_tool.specs.Replies.{ends, told_by, at_end, by_end, from_told, replies_from, replies_of}
 
 pub record IsReplied (trace replies rest : List ℕ) (before : ℕ) : Type 0 where
   pub total : replies_of trace ≡ after_these replies (replies_from (before + 1) (ended_lines rest) (unended rest))
@@ -31,31 +30,31 @@ pub record IsNext (rest line after : List ℕ) : Type 0 where
 
 -- what a line gives
 pub by_kind : (trace replies rest line after : List ℕ) (before : ℕ) → IsReplied trace replies rest before → IsNext rest line after
-    → replies_of trace ≡ after_these replies (from_kind (before + 1) (kind_of line) line (at_end (before + 1 + 1) (ended_lines after) (unended after)) (replies_from (before + 1 + 1) (ended_lines after) (unended after)))
+    → replies_of trace ≡ after_these replies (from_told (before + 1) (told_by line) (at_end (before + 1 + 1) (ended_lines after) (unended after)) (replies_from (before + 1 + 1) (ended_lines after) (unended after)))
 by_kind trace replies rest line after before r n =
     r.total
     ∙ ap (λ ls. after_these replies (replies_from (before + 1) ls (unended rest))) n.lines
     ∙ ap (λ t. after_these replies (replies_from (before + 1) (line ∷ ended_lines after) t)) n.behind
 
 -- a line of a kind, by whether it ends the trace
-with_kind : (trace replies rest line after : List ℕ) (before : ℕ) (kind : Kind) (end : Bool) → IsReplied trace replies rest before → IsNext rest line after
-    → kind_of line ≡ Some kind → ends kind ≡ end
-    → replies_of trace ≡ after_these replies (by_end end (sent_by kind line) (at_end (before + 1 + 1) (ended_lines after) (unended after)) (replies_from (before + 1 + 1) (ended_lines after) (unended after)))
-with_kind trace replies rest line after before kind end r n some is =
+with_kind : (trace replies rest line after : List ℕ) (before : ℕ) (kind : Kind) (sent : Option ℕ) (end : Bool) → IsReplied trace replies rest before → IsNext rest line after
+    → told_by line ≡ Some (kind, sent) → ends kind ≡ end
+    → replies_of trace ≡ after_these replies (by_end end sent (at_end (before + 1 + 1) (ended_lines after) (unended after)) (replies_from (before + 1 + 1) (ended_lines after) (unended after)))
+with_kind trace replies rest line after before kind sent end r n some is =
     by_kind trace replies rest line after before r n
-    ∙ ap (λ k. after_these replies (from_kind (before + 1) k line (at_end (before + 1 + 1) (ended_lines after) (unended after)) (replies_from (before + 1 + 1) (ended_lines after) (unended after)))) some
-    ∙ ap (λ e. after_these replies (by_end e (sent_by kind line) (at_end (before + 1 + 1) (ended_lines after) (unended after)) (replies_from (before + 1 + 1) (ended_lines after) (unended after)))) is
+    ∙ ap (λ k. after_these replies (from_told (before + 1) k (at_end (before + 1 + 1) (ended_lines after) (unended after)) (replies_from (before + 1 + 1) (ended_lines after) (unended after)))) some
+    ∙ ap (λ e. after_these replies (by_end e sent (at_end (before + 1 + 1) (ended_lines after) (unended after)) (replies_from (before + 1 + 1) (ended_lines after) (unended after)))) is
 
 -- after one more line
-pub IsReplied-more : (trace replies more rest line after : List ℕ) (before : ℕ) (kind : Kind) → IsReplied trace replies rest before → IsNext rest line after
-    → kind_of line ≡ Some kind → ends kind ≡ false → more ≡ replies ++ sent_by kind line → IsReplied trace more after (before + 1)
-IsReplied-more trace replies more rest line after before kind r n some goes is = record {
-  total = with_kind trace replies rest line after before kind false r n some goes ∙ by (replies_from (before + 1 + 1) (ended_lines after) (unended after)) ∙ ap (λ bs. after_these bs (replies_from (before + 1 + 1) (ended_lines after) (unended after))) (sym is);
+pub IsReplied-more : (trace replies more rest line after : List ℕ) (before : ℕ) (kind : Kind) (sent : Option ℕ) → IsReplied trace replies rest before → IsNext rest line after
+    → told_by line ≡ Some (kind, sent) → ends kind ≡ false → more ≡ replies ++ option_to_list sent → IsReplied trace more after (before + 1)
+IsReplied-more trace replies more rest line after before kind sent r n some goes is = record {
+  total = with_kind trace replies rest line after before kind sent false r n some goes ∙ by (replies_from (before + 1 + 1) (ended_lines after) (unended after)) ∙ ap (λ bs. after_these bs (replies_from (before + 1 + 1) (ended_lines after) (unended after))) (sym is);
   counted = let old = r.counted in omega (arith, ap length n.cut, length-append line (10 ∷ after));
 }
   where
-    by : (rs : Result (List ℕ) TraceFault) → after_these replies (after_these (sent_by kind line) rs) ≡ after_these (replies ++ sent_by kind line) rs
-    by (Ok bytes) = ap Ok (sym (append_assoc replies (sent_by kind line) bytes))
+    by : (rs : Result (List ℕ) TraceFault) → after_these replies (after_these (option_to_list sent) rs) ≡ after_these (replies ++ option_to_list sent) rs
+    by (Ok bytes) = ap Ok (sym (append_assoc replies (option_to_list sent) bytes))
     by (Err fault) = refl
 
 -- what may follow the end line
@@ -73,18 +72,18 @@ something_follows n after some = by (ended_lines after) (unended after) (texts_a
     by (line ∷ lines) tail is = refl
 
 -- an end line that nothing follows
-pub IsReplied-ends : (trace replies rest line after : List ℕ) (before : ℕ) (kind : Kind) → IsReplied trace replies rest before → IsNext rest line after
-    → kind_of line ≡ Some kind → ends kind ≡ true → length after ≡ 0 → replies_of trace ≡ Ok replies
-IsReplied-ends trace replies rest line after before kind r n some goes is =
-    with_kind trace replies rest line after before kind true r n some goes
+pub IsReplied-ends : (trace replies rest line after : List ℕ) (before : ℕ) (kind : Kind) (sent : Option ℕ) → IsReplied trace replies rest before → IsNext rest line after
+    → told_by line ≡ Some (kind, sent) → ends kind ≡ true → length after ≡ 0 → replies_of trace ≡ Ok replies
+IsReplied-ends trace replies rest line after before kind sent r n some goes is =
+    with_kind trace replies rest line after before kind sent true r n some goes
     ∙ ap (after_these replies) (nothing_follows (before + 1 + 1) after is)
     ∙ ap Ok (append-nil replies)
 
 -- an end line that something follows
-pub IsReplied-follows : (trace replies rest line after : List ℕ) (before : ℕ) (kind : Kind) → IsReplied trace replies rest before → IsNext rest line after
-    → kind_of line ≡ Some kind → ends kind ≡ true → 0 < length after → replies_of trace ≡ Err (Line (before + 2))
-IsReplied-follows trace replies rest line after before kind r n some goes more =
+pub IsReplied-follows : (trace replies rest line after : List ℕ) (before : ℕ) (kind : Kind) (sent : Option ℕ) → IsReplied trace replies rest before → IsNext rest line after
+    → told_by line ≡ Some (kind, sent) → ends kind ≡ true → 0 < length after → replies_of trace ≡ Err (Line (before + 2))
+IsReplied-follows trace replies rest line after before kind sent r n some goes more =
     let next : before + 1 + 1 ≡ before + 2 = omega arith in
-    with_kind trace replies rest line after before kind true r n some goes
+    with_kind trace replies rest line after before kind sent true r n some goes
     ∙ ap (after_these replies) (something_follows (before + 1 + 1) after more)
     ∙ ap (λ k. Err (Line k)) next

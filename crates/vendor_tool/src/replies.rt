@@ -1,6 +1,6 @@
 //! What a machine sent, by its trace.
 
-ghost use Rattle.std.specs.Prelude.{◌≡◌, ◌≢◌, ◌++◌, Ok, Err, IfOk, IfErr, OnOk};
+ghost use Rattle.std.specs.Prelude.{◌≡◌, ◌≢◌, ◌++◌, Ok, Err, IfOk, IfErr, OnOk, option_to_list};
 ghost use Rattle.vendor_tool.specs.Replies as spec;
 
 use crate::TraceFault;
@@ -22,7 +22,7 @@ pub fn read_replies(alloc: Global, trace: &[u8]) -> Result<Vec<u8>, TraceFault>
     let mut rest = trace;
     let mut before = 0;
     while let Some((line, after)) = split_line(rest) {
-        let Some(kind) = kind_of(line) else {
+        let Some((kind, sent)) = told_by(line) else {
             return Err(TraceFault::Line { n: before + 1 });
         };
         if ends(kind) {
@@ -32,7 +32,7 @@ pub fn read_replies(alloc: Global, trace: &[u8]) -> Result<Vec<u8>, TraceFault>
                 Err(TraceFault::Line { n: before + 2 })
             };
         }
-        if push_byte(kind, line, &mut replies).is_err() {
+        if push_byte(sent, &mut replies).is_err() {
             return Err(TraceFault::NoMemory);
         }
         rest = after;
@@ -45,14 +45,24 @@ pub fn read_replies(alloc: Global, trace: &[u8]) -> Result<Vec<u8>, TraceFault>
     }
 }
 
-// Appends the byte that a line of this kind tells, if it tells one.
-fn push_byte(kind: Kind, line: &[u8], replies: &mut Vec<u8>) -> Result<(), AllocError>
-    ensures { OnOk result (replies.new.items ≡ replies.old.items ++ spec.sent_by kind line.now) }
+// The kind of a line, and the byte that it says was sent, if it says so.
+#[tactic(auto, unfolding(crate::specs::Replies::told_by))]
+fn told_by(line: &[u8]) -> Option<(Kind, Option<u8>)>
+    ensures { result ≡ spec.told_by line.now }
 {
+    let kind = kind_of(line)?;
     if !tells_byte(kind) {
-        return Ok(());
+        return Some((kind, None));
     }
-    if let Some(byte) = last_byte(line) {
+    let byte = last_byte(line)?;
+    Some((kind, Some(byte)))
+}
+
+// Appends the byte that was sent, if one was.
+fn push_byte(sent: Option<u8>, replies: &mut Vec<u8>) -> Result<(), AllocError>
+    ensures { OnOk result (replies.new.items ≡ replies.old.items ++ option_to_list sent) }
+{
+    if let Some(byte) = sent {
         replies.push(byte)?;
     }
     Ok(())
