@@ -1,8 +1,8 @@
 //! The bus: the three devices, and the schedule that moves them.
 
-ghost use Rattle.std.specs.Prelude.{◌≡◌, ◌≤◌, ◌<◌, ◌+◌, ◌-◌, ◌^◌, ℕ, List, length, drop, min, All, IfOk};
+ghost use Rattle.std.specs.Prelude.{◌≡◌, ◌≤◌, ◌<◌, ◌+◌, ◌-◌, ◌^◌, ℕ, true, List, length, drop, min, All, IfOk};
 ghost use Rattle.schedule_file.specs.declared.Entry.{Entry};
-ghost use Rattle.schedule_file.specs.Entries.{CyclesNeverFall, HasLine, line_number};
+ghost use Rattle.schedule_file.specs.Entries.{CyclesNeverFall, HasLine, has_line};
 ghost use Rattle.devices.specs.Devices.{silent, happens, ticked_devices, line_of, accepted, read_of, after_read, write_of};
 ghost use Rattle.devices.specs.Time.{ticked_by, quiet_of};
 ghost use Rattle.devices.specs.internal.Parts.{joined_parts};
@@ -27,8 +27,9 @@ struct Present {
 }
 
 impl Present {
+    #[tactic(auto, using(std::proofs::lemmas::Bool::Decides::nat_tests))]
     fn happen(&mut self, what: What)
-        requires { line_number what < 4 }
+        requires { has_line what ≡ true }
         ensures devices { (es : List Entry) → joined_parts self.new.lines self.new.serial self.new.timer es ≡
             happens what (joined_parts self.old.lines self.old.serial self.old.timer es) }
         ensures ticks { self.new.ticks ≡ self.old.ticks }

@@ -1,19 +1,18 @@
 -- The entries of a schedule.
-use Rattle.std.specs.Prelude.{ℕ, ◌<◌, ◌^◌, List}
+use Rattle.std.specs.Prelude.{◌≡◌, ◌<◌, ◌^◌, Bool, true, nat_le, List}
 use Rattle.std.specs.List.Sorted.{IsNonDecreasingBy}
 use Rattle.schedule_file.specs.declared.Entry.{Entry}
 use Rattle.schedule_file.specs.declared.What.{What}
 use Rattle.schedule_file.specs.declared.What.TheVariants.{Serial, Up, Down}
 
--- the line that moves, and 0 for a byte
-abbrev pub line_number : What → ℕ
-line_number (Serial byte) = 0
-line_number (Up line) = line
-line_number (Down line) = line
+-- whether the line that moves, where one does, is one of the lines 0 to 3
+abbrev pub has_line : What → Bool
+has_line (Serial byte) = true
+has_line (Up line) = nat_le line 3
+has_line (Down line) = nat_le line 3
 
--- the lines are 0 to 3
 abbrev pub HasLine : Entry → Type 0
-HasLine e = line_number e.what < 4
+HasLine e = has_line e.what ≡ true
 
 -- no cycle is below the one before
 abbrev pub CyclesNeverFall : List Entry → Type 0

@@ -1,7 +1,7 @@
 //! One line of a schedule.
 
-ghost use Rattle.std.specs.Prelude.{◌≡◌, ◌<◌, IfSome};
-ghost use Rattle.schedule_file.specs.Entries.{HasLine, line_number};
+ghost use Rattle.std.specs.Prelude.{◌≡◌, true, IfSome};
+ghost use Rattle.schedule_file.specs.Entries.{HasLine, has_line};
 ghost use Rattle.schedule_file.specs.Line as spec;
 
 use crate::{Entry, MAX_CYCLE, What};
@@ -22,7 +22,7 @@ pub fn entry_of(line: &[u8]) -> Option<Entry>
 // What happens, from what stands after the cycle and its space.
 fn what_of(text: &[u8]) -> Option<What>
     ensures what { result ≡ spec.what_of text.now }
-    ensures line { IfSome result (λ what. line_number what < 4) }
+    ensures line { IfSome result (λ what. has_line what ≡ true) }
 {
     if let Some(digits) = text.strip_prefix(b"serial ") {
         return read_hex_byte(digits).map(|byte| What::Serial(byte));
@@ -31,9 +31,10 @@ fn what_of(text: &[u8]) -> Option<What>
 }
 
 // A line's number, and whether it goes up or down.
+#[tactic(auto, using(std::proofs::lemmas::Bool::Decides::nat_tests))]
 fn move_of(text: &[u8]) -> Option<What>
     ensures movement { result ≡ spec.move_of text.now }
-    ensures line { IfSome result (λ what. line_number what < 4) }
+    ensures line { IfSome result (λ what. has_line what ≡ true) }
 {
     let (number, word) = text.split_first()?;
     let line = match *number {

@@ -61,8 +61,8 @@ kept_pulse : (entries : List Entry) (low cycle high : ℕ) → IsKept entries lo
 kept_pulse entries low cycle high r rises few =
     let up : Entry = record { cycle = cycle; what = Up 0 } in
     let down : Entry = record { cycle = cycle + 1; what = Down 0 } in
-    let one = kept_push entries up low r rises (omega arith) in
-    let two = kept_push (entries ++ up ∷ []) down cycle one (omega arith) (omega arith) in
+    let one = kept_push entries up low r rises refl in
+    let two = kept_push (entries ++ up ∷ []) down cycle one (omega arith) refl in
     kept_higher ((entries ++ up ∷ []) ++ down ∷ []) (cycle + 1) high two few
 
 late : (n : ℕ) → n % 100 < 100
