@@ -11,30 +11,30 @@ use Rattle.cycle_table.specs.Cycles.{cycles_of}
 use Rattle.mod_layout.specs.declared.Section.{Section}
 use Rattle.mod_layout.specs.Table.{holds}
 use Rattle.arm_balance.specs.Met.{met}
-use Rattle.arm_balance.specs.Balance.{not_pc, ends_by, arm_next, arm_on, with_rest, time_on, time_from, time_of}
+use Rattle.arm_balance.specs.Balance.{not_pc, ends_by, arm_next, arm_insn, arm_on, with_rest, time_next, time_on, time_from, time_of}
 
 -- ---- where an arm goes on
 
 pub on_at : (s : Section) (text : List ℕ) (pc join next : ℕ) (insn : Insn) → holds s pc ≡ true → pc < join → met s text pc ≡ Some insn → arm_next join pc (Some insn) ≡ Some next → arm_on s text join pc ≡ Some next
 on_at s text pc join next insn h l m n =
-    ap (λ b. cond (b && nat_lt pc join) (arm_next join pc (met s text pc)) None) h
-    ∙ ap (λ b. cond (true && b) (arm_next join pc (met s text pc)) None) (let t : nat_lt pc join ≡ true = grind (arith, nat_tests) in t)
+    ap (λ b. arm_next join pc (cond (b && nat_lt pc join) (met s text pc) None)) h
+    ∙ ap (λ b. arm_next join pc (cond (true && b) (met s text pc) None)) (let t : nat_lt pc join ≡ true = grind (arith, nat_tests) in t)
     ∙ ap (λ o. arm_next join pc o) m ∙ n
 
 pub on_far : (s : Section) (text : List ℕ) (pc join : ℕ) → (holds s pc && nat_lt pc join) ≡ false → arm_on s text join pc ≡ None
-on_far s text pc join e = ap (λ b. cond b (arm_next join pc (met s text pc)) None) e
+on_far s text pc join e = ap (λ b. arm_next join pc (cond b (met s text pc) None)) e
 
 pub on_unmet : (s : Section) (text : List ℕ) (pc join : ℕ) → met s text pc ≡ None → arm_on s text join pc ≡ None
 on_unmet s text pc join m = by (holds s pc && nat_lt pc join)
   where
-    by : (b : Bool) → cond b (arm_next join pc (met s text pc)) None ≡ None
+    by : (b : Bool) → arm_next join pc (cond b (met s text pc) None) ≡ None
     by true = ap (λ o. arm_next join pc o) m
     by false = refl
 
 pub on_stop : (s : Section) (text : List ℕ) (pc join : ℕ) (insn : Insn) → met s text pc ≡ Some insn → arm_next join pc (Some insn) ≡ None → arm_on s text join pc ≡ None
 on_stop s text pc join insn m n = by (holds s pc && nat_lt pc join)
   where
-    by : (b : Bool) → cond b (arm_next join pc (met s text pc)) None ≡ None
+    by : (b : Bool) → arm_next join pc (cond b (met s text pc) None) ≡ None
     by true = ap (λ o. arm_next join pc o) m ∙ n
     by false = refl
 
@@ -68,13 +68,14 @@ insn_up Reti join pc next e = absurd (let g : ⊥ = cc in g)
 insn_up (UnitOp n) join pc next e = absurd (let g : ⊥ = cc in g)
 insn_up (One op w a) join pc next e = ends_up a (One op w a) join pc next (omega arith) e
 
--- where an arm goes on it goes up, at most to its join
-pub on_up : (s : Section) (text : List ℕ) (join pc next : ℕ) → arm_on s text join pc ≡ Some next → (pc < next) × (next ≤ join)
-on_up s text join pc next e = by (holds s pc && nat_lt pc join) (met s text pc) e
+-- the instruction from which an arm goes on
+goes_on : (s : Section) (text : List ℕ) (join pc next : ℕ) (insn : Insn) → arm_on s text join pc ≡ Some next → met s text pc ≡ Some insn
+    → (arm_insn s text join pc ≡ Some insn) × (arm_next join pc (Some insn) ≡ Some next)
+goes_on s text join pc next insn on it = by (holds s pc && nat_lt pc join) on
   where
-    by : (b : Bool) (o : Option Insn) → cond b (arm_next join pc o) None ≡ Some next → (pc < next) × (next ≤ join)
-    by true (Some insn) e = insn_up insn join pc next e
-    by _ _ e = absurd (let g : ⊥ = cc in g)
+    by : (b : Bool) → arm_next join pc (cond b (met s text pc) None) ≡ Some next → (cond b (met s text pc) None ≡ Some insn) × (arm_next join pc (Some insn) ≡ Some next)
+    by true on = (it, sym (ap (λ o. arm_next join pc o) it) ∙ on)
+    by false on = absurd (let g : ⊥ = cc in g)
 
 -- ---- steps enough
 
@@ -86,25 +87,24 @@ enough s text join (suc f) (suc g) pc a b c d =
     Same : Type 0
     Same = (next : ℕ) → join < f + next → join < g + next → 0 < f → 0 < g → time_from s text join f next ≡ time_from s text join g next
 
-    by_met : (next : ℕ) → time_from s text join f next ≡ time_from s text join g next → (o : Option Insn) →
-        time_on (Some next) o (time_from s text join f) pc ≡ time_on (Some next) o (time_from s text join g) pc
-    by_met next e None = refl
-    by_met next e (Some insn) = ap (with_rest (cycles_of insn)) e
-
-    by_next : Same → (o : Option ℕ) → arm_on s text join pc ≡ o →
-        time_on o (met s text pc) (time_from s text join f) pc ≡ time_on o (met s text pc) (time_from s text join g) pc
-    by_next same None e = refl
-    by_next same (Some next) e =
-        let u = on_up s text join pc next e in
+    by_next : Same → (insn : Insn) (o : Option ℕ) → arm_next join pc (Some insn) ≡ o →
+        time_next (cycles_of insn) o (time_from s text join f) pc ≡ time_next (cycles_of insn) o (time_from s text join g) pc
+    by_next same insn None e = refl
+    by_next same insn (Some next) e =
+        let u = insn_up insn join pc next e in
         let v : pc < next = u.0 in
         let w : next ≤ join = u.1 in
-        by_met next (same next (omega arith) (omega arith) (omega arith) (omega arith)) (met s text pc)
+        ap (with_rest (cycles_of insn)) (same next (omega arith) (omega arith) (omega arith) (omega arith))
+
+    by_insn : Same → (o : Option Insn) → time_on join o (time_from s text join f) pc ≡ time_on join o (time_from s text join g) pc
+    by_insn same None = refl
+    by_insn same (Some insn) = by_next same insn (arm_next join pc (Some insn)) refl
 
     by_here : (t : Bool) → Same →
-        cond t (Ok 0) (time_on (arm_on s text join pc) (met s text pc) (time_from s text join f) pc)
-        ≡ cond t (Ok 0) (time_on (arm_on s text join pc) (met s text pc) (time_from s text join g) pc)
+        cond t (Ok 0) (time_on join (arm_insn s text join pc) (time_from s text join f) pc)
+        ≡ cond t (Ok 0) (time_on join (arm_insn s text join pc) (time_from s text join g) pc)
     by_here true same = refl
-    by_here false same = by_next same (arm_on s text join pc) refl
+    by_here false same = by_insn same (arm_insn s text join pc)
 enough s text join _ _ pc a b c d = absurd (omega arith)
 
 -- ---- the time, step by step
@@ -119,25 +119,30 @@ with_more n k (Err a) = refl
 
 pub time_ends : (s : Section) (text : List ℕ) (join : ℕ) → time_of s text join join ≡ Ok 0
 unfolding time_of
-time_ends s text join = ap (λ b. cond b (Ok 0) (time_on (arm_on s text join join) (met s text join) (time_from s text join join) join)) (eq-eqb join join refl)
+time_ends s text join = ap (λ b. cond b (Ok 0) (time_on join (arm_insn s text join join) (time_from s text join join) join)) (eq-eqb join join refl)
 
-away : (s : Section) (text : List ℕ) (join pc : ℕ) (o : Option ℕ) → pc ≢ join → arm_on s text join pc ≡ o → time_of s text pc join ≡ time_on o (met s text pc) (time_from s text join join) pc
+away : (s : Section) (text : List ℕ) (join pc : ℕ) (o : Option Insn) → pc ≢ join → arm_insn s text join pc ≡ o → time_of s text pc join ≡ time_on join o (time_from s text join join) pc
 unfolding time_of
 away s text join pc o ne e =
-    ap (λ b. cond b (Ok 0) (time_on (arm_on s text join pc) (met s text pc) (time_from s text join join) pc)) (let f : (pc == join) ≡ false = grind (arith, nat_tests) in f)
-    ∙ ap (λ o. time_on o (met s text pc) (time_from s text join join) pc) e
+    ap (λ b. cond b (Ok 0) (time_on join (arm_insn s text join pc) (time_from s text join join) pc)) (let f : (pc == join) ≡ false = grind (arith, nat_tests) in f)
+    ∙ ap (λ o. time_on join o (time_from s text join join) pc) e
 
 pub time_stops : (s : Section) (text : List ℕ) (join pc total : ℕ) (r : Result ℕ ℕ) → r ≡ with_rest total (time_of s text pc join) → pc ≢ join → arm_on s text join pc ≡ None → Err pc ≡ r
-time_stops s text join pc total r e ne on = sym (e ∙ ap (with_rest total) (away s text join pc None ne on))
+time_stops s text join pc total r e ne on = sym (e ∙ ap (with_rest total) (away s text join pc (arm_insn s text join pc) ne refl ∙ by (arm_insn s text join pc) on))
+  where
+    by : (o : Option Insn) → arm_next join pc o ≡ None → time_on join o (time_from s text join join) pc ≡ Err pc
+    by None e = refl
+    by (Some insn) e = ap (λ n. time_next (cycles_of insn) n (time_from s text join join) pc) e
 
 pub time_step : (s : Section) (text : List ℕ) (join pc next total : ℕ) (insn : Insn) (r : Result ℕ ℕ) →
     r ≡ with_rest total (time_of s text pc join) → pc ≢ join → arm_on s text join pc ≡ Some next → met s text pc ≡ Some insn → r ≡ with_rest (total + cycles_of insn) (time_of s text next join)
 unfolding time_of
 time_step s text join pc next total insn r e ne on it =
-    let u = on_up s text join pc next on in
+    let g = goes_on s text join pc next insn on it in
+    let u = insn_up insn join pc next g.1 in
     let v : pc < next = u.0 in
     let w : next ≤ join = u.1 in
-    e ∙ ap (with_rest total) (away s text join pc (Some next) ne on ∙ ap (λ o. time_on (Some next) o (time_from s text join join) pc) it)
+    e ∙ ap (with_rest total) (away s text join pc (Some insn) ne g.0 ∙ ap (λ n. time_next (cycles_of insn) n (time_from s text join join) pc) g.1)
     ∙ with_more total (cycles_of insn) (time_from s text join join next)
     ∙ ap (with_rest (total + cycles_of insn)) (enough s text join join (suc join) next (omega arith) (omega arith) (omega arith) (omega arith))
 

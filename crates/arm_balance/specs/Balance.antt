@@ -31,24 +31,33 @@ arm_next join pc (Some (Jump condition off)) =
     let to = add16 (add16 pc 2) (distance off) in if is_always condition && nat_lt pc to && nat_le to join then Some to else None
 arm_next join pc (Some insn) = None
 
--- where the arm goes on from an address of the text below the join
+-- the instruction at an address of the text below the join
+abbrev pub arm_insn : Section → List ℕ → ℕ → ℕ → Option Insn
+arm_insn s text join pc = if holds s pc && nat_lt pc join then met s text pc else None
+
+-- where the arm goes on from there
 abbrev pub arm_on : Section → List ℕ → ℕ → ℕ → Option ℕ
-arm_on s text join pc = if holds s pc && nat_lt pc join then arm_next join pc (met s text pc) else None
+arm_on s text join pc = arm_next join pc (arm_insn s text join pc)
 
 -- an instruction's cycles, and those of the rest
 abbrev pub with_rest : ℕ → Result ℕ ℕ → Result ℕ ℕ
 with_rest n (Ok t) = Ok (n + t)
 with_rest n (Err a) = Err a
 
-abbrev pub time_on : Option ℕ → Option Insn → (ℕ → Result ℕ ℕ) → ℕ → Result ℕ ℕ
-time_on (Some next) (Some insn) rest pc = with_rest (cycles_of insn) (rest next)
-time_on _ _ rest pc = Err pc
+-- the cycles of an instruction at pc and of the rest from where it goes on, or pc
+abbrev pub time_next : ℕ → Option ℕ → (ℕ → Result ℕ ℕ) → ℕ → Result ℕ ℕ
+time_next n None rest pc = Err pc
+time_next n (Some next) rest pc = with_rest n (rest next)
+
+abbrev pub time_on : ℕ → Option Insn → (ℕ → Result ℕ ℕ) → ℕ → Result ℕ ℕ
+time_on join None rest pc = Err pc
+time_on join (Some insn) rest pc = time_next (cycles_of insn) (arm_next join pc (Some insn)) rest pc
 
 -- the cycles from pc to the join, or the address of the first instruction that is none of an arm, in so many steps
 abbrev pub time_from : Section → List ℕ → ℕ → ℕ → ℕ → Result ℕ ℕ
 time_from s text join zero pc = Err pc
 time_from s text join (suc steps) pc =
-    if pc == join then Ok 0 else time_on (arm_on s text join pc) (met s text pc) (time_from s text join steps) pc
+    if pc == join then Ok 0 else time_on join (arm_insn s text join pc) (time_from s text join steps) pc
 
 -- each step goes up, so an arm has no more steps than its join has addresses below it
 unfoldable pub time_of : Section → List ℕ → ℕ → ℕ → Result ℕ ℕ

@@ -391,7 +391,7 @@ module _ (terms : Terms) (key : List ℕ) (m : Module) (text : List ℕ) (caller
         lt_le a e = let k : a < join = grind (arith, nat_tests) in omega arith
 
         by : (b : Bool) → (x.point.addr == join) ≡ b → (p q : Bool) → nat_lt x.point.addr join ≡ q →
-            MeetsJoin (cond b (Meets 0 [] []) (onward join fuel (cond (p && q) (arm_next join x.point.addr (met_at x)) None) x)) →
+            MeetsJoin (cond b (Meets 0 [] []) (onward join fuel (arm_next join x.point.addr (cond (p && q) (met_at x) None)) x)) →
             x.point.addr ≤ join
         by true e p q f meets = eq_le x.point.addr e
         by false e true true f meets = lt_le x.point.addr f
@@ -411,14 +411,14 @@ module _ (terms : Terms) (key : List ℕ) (m : Module) (text : List ℕ) (caller
             walk_more join fuel x c d here next e go (S x).violations (S x).gives refl refl meets
 
         by_test : (p q : Bool) → holds m.text x.point.addr ≡ p → Arrives join fuel →
-            MeetsJoin (onward join fuel (cond (p && q) (arm_next join x.point.addr (met_at x)) None) x) →
-            Walked (onward join fuel (cond (p && q) (arm_next join x.point.addr (met_at x)) None) x) join c d
+            MeetsJoin (onward join fuel (arm_next join x.point.addr (cond (p && q) (met_at x) None)) x) →
+            Walked (onward join fuel (arm_next join x.point.addr (cond (p && q) (met_at x) None)) x) join c d
         by_test true true e go meets = by_next (arm_next join x.point.addr (met_at x)) refl e go meets
         by_test true false e go meets = absurd meets
         by_test false q e go meets = absurd meets
 
         on : Option ℕ
-        on = cond (holds m.text x.point.addr && nat_lt x.point.addr join) (arm_next join x.point.addr (met_at x)) None
+        on = arm_next join x.point.addr (cond (holds m.text x.point.addr && nat_lt x.point.addr join) (met_at x) None)
 
         by : (b : Bool) → (x.point.addr == join) ≡ b → Arrives join fuel →
             MeetsJoin (cond b (Meets 0 [] []) (onward join fuel on x)) →

@@ -363,7 +363,7 @@ module _ (terms : Terms) (m : Module) (text : List ℕ) where
     walk_at fuel pc r q top low even o go meets = by (pc == join) (arm_on m.text text join pc) refl meets
       where
         on : (a b : Bool) (next : ℕ) → holds m.text pc ≡ a →
-            cond (a && b) (arm_next join pc (met m.text text pc)) None ≡ Some next →
+            arm_next join pc (cond (a && b) (met m.text text pc) None) ≡ Some next →
             MeetsJoin (onward_by fuel false (Some next) (point_state pc r top)) →
             onward_by fuel false (Some next) (point_state pc q low) ≡ onward_by fuel false (Some next) (point_state pc r top)
         on true true next here e meets = walk_more fuel next pc r q top low even here e o go _ refl meets
