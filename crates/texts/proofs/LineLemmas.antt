@@ -33,7 +33,7 @@ first_cut : (text : List ℕ) → position_or_len is_line_feed text < length tex
 first_cut text h =
     let feed : get_or text (position_or_len is_line_feed text) 0 ≡ 10 = let p = passes_at_first is_line_feed text 0 h in grind (arith, nat_tests) in
     let parts : text ≡ before_first is_line_feed text ++ (10 ∷ after_first is_line_feed text) =
-        split_at_first is_line_feed text 0 h ∙ ap (λ b. before_first is_line_feed text ++ (b ∷ after_first is_line_feed text)) feed in
+    split_at_first is_line_feed text 0 h ∙ ap (λ b. before_first is_line_feed text ++ (b ∷ after_first is_line_feed text)) feed in
     record {
       within = h;
       cut = parts;
