@@ -3,8 +3,9 @@
 
 use crate::accesses::{reads_destination, writes_destination};
 use crate::memory::word_number;
+use crate::transfer::{one_reads_carry, one_sets_flags, reads_carry, sets_flags};
 use flow_rule::{AbstractState, Reach, Val};
-use insn_decode::{Insn, OneOp, Operand, TwoOp};
+use insn_decode::{Insn, OneOp, Operand};
 use mod_layout::Module;
 use sm_words::Width;
 
@@ -57,21 +58,6 @@ pub struct Relevance {
     known: Origins,
     /// Whether instructions are followed.
     follows: bool,
-}
-
-/// Whether an operation of format I reads C.
-fn reads_carry(op: TwoOp) -> bool {
-    matches!(op, TwoOp::Addc | TwoOp::Subc | TwoOp::Dadd)
-}
-
-/// Whether it sets the flags.
-fn sets_flags(op: TwoOp) -> bool {
-    !matches!(op, TwoOp::Mov | TwoOp::Bic | TwoOp::Bis)
-}
-
-/// Whether an operation of format II sets the flags.
-fn one_sets_flags(op: OneOp) -> bool {
-    matches!(op, OneOp::Rrc | OneOp::Rra | OneOp::Sxt)
 }
 
 /// The register that an operand's address is made of.
@@ -180,7 +166,7 @@ impl Relevance {
     ) {
         self.need(arg);
         let from = place(module, arg, reaches.first());
-        let made = self.at(from).with(self.carry(op == OneOp::Rrc));
+        let made = self.at(from).with(self.carry(one_reads_carry(op)));
         if one_sets_flags(op) {
             self.set(usize::from(FLAGS), made);
         }

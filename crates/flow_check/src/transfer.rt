@@ -1,22 +1,23 @@
 //! The transfer functions: what an instruction does to an abstract state.
 
-ghost use Rattle.std.specs.Prelude.{◌≡◌, ◌==◌, [], ◌∷◌, true, if◌then◌else◌};
+ghost use Rattle.std.specs.Prelude.{◌≡◌, ◌==◌, ◌<◌, [], ◌∷◌, true, if◌then◌else◌, Some, None};
 ghost use Rattle.sm_words.specs.Sums.{low, one_if};
 ghost use Rattle.sm_words.specs.Words.{nth};
-ghost use Rattle.cpu_step.specs.Plan.{writes_dst};
-ghost use Rattle.cpu_step.specs.Effect.{in_memory, two_result};
-ghost use Rattle.flow_rule.specs.Values.{number, gives, over_one, put_val};
-ghost use Rattle.flow_rule.specs.Does.{two_reads, flags_of, told_of, two_val, one_val};
+ghost use Rattle.cpu_step.specs.Plan.{reads_dst, writes_dst};
+ghost use Rattle.cpu_step.specs.Effect.{in_memory, value_of, two_result, one_result};
+ghost use Rattle.flow_rule.specs.Values.{over, over_one, put_val};
+ghost use Rattle.flow_rule.specs.Does.{reads_carry, sets_flags, one_reads_carry, one_sets_flags};
+ghost use Rattle.flow_rule.specs.Does.{read_if, told_of, two_val, one_val};
 ghost use Rattle.flow_rule.specs.Does.{set_flags_by, given_val, after_val};
 ghost use Rattle.flow_rule.specs.Does.{into_register_val, written_val, clears, clears_flags};
 ghost use Rattle.flow_rule.specs.Does.{cleared_if, carry_val, one_done_val, does_val};
 ghost use Rattle.flow_check.specs.internal.Carries.{IsCarry};
 
-use crate::accesses::{increment, lower, step_past, writes_destination};
-use crate::domain::{Core, blurred, blurred_all, blurred_both, carry, get, narrow, put};
+use crate::accesses::{increment, lower, reads_destination, step_past, writes_destination};
+use crate::domain::{Core, blurred_all, carry, get, narrow, put};
 use arm_balance::target;
 use arrayvec::ArrayVec;
-use cpu_step::{Computed, one_result, two_result};
+use cpu_step::{one_result, two_result};
 use flow_rule::{Told, Val};
 use insn_decode::{Insn, OneOp, Operand, TwoOp};
 use sm_words::{Width, status};
@@ -41,84 +42,106 @@ fn carry_of(core: &Core) -> Val
     carry(get(core, 2))
 }
 
-/// The number of a value, where it is Known.
-fn number(value: Val) -> u16
-    ensures { result ≡ number value }
+/// ADDC, SUBC and DADD read C.
+pub fn reads_carry(op: TwoOp) -> bool
+    ensures { result ≡ reads_carry op }
 {
-    match value {
-        Val::Known(v) => v,
-        _ => 0,
-    }
+    matches!(op, TwoOp::Addc | TwoOp::Subc | TwoOp::Dadd)
+}
+
+/// MOV, BIC and BIS keep the flags.
+pub fn sets_flags(op: TwoOp) -> bool
+    ensures { result ≡ sets_flags op }
+{
+    !matches!(op, TwoOp::Mov | TwoOp::Bic | TwoOp::Bis)
+}
+
+/// RRC reads C.
+pub fn one_reads_carry(op: OneOp) -> bool
+    ensures { result ≡ one_reads_carry op }
+{
+    op == OneOp::Rrc
+}
+
+/// SWPB, PUSH and CALL keep the flags.
+pub fn one_sets_flags(op: OneOp) -> bool
+    ensures { result ≡ one_sets_flags op }
+{
+    matches!(op, OneOp::Rrc | OneOp::Rra | OneOp::Sxt)
+}
+
+/// A value that is read, or else 0.
+fn read_if(read: bool, value: Val) -> Val
+    ensures { result ≡ read_if read value }
+{
+    if read { value } else { Val::Known(0) }
+}
+
+/// C where it is read, or else 0.
+fn carry_if(read: bool, carry: Val) -> Val
+    requires { IsCarry carry }
+    ensures exact { result ≡ read_if read carry }
+    ensures small { IsCarry result }
+{
+    if read { carry } else { Val::Known(0) }
 }
 
 /// C as it is added.
-fn is_one(carry: Val) -> bool
-    requires { IsCarry carry }
-    ensures { one_if result ≡ number carry }
+fn is_one(carry: u16) -> bool
+    requires { carry < 2 }
+    ensures { one_if result ≡ carry }
 {
-    match carry {
-        Val::Known(v) => v == 1,
-        _ => false,
+    carry == 1
+}
+
+/// What format I gives, Known where all that it reads is.
+fn two_value(op: TwoOp, width: Width, s: Val, d: Val, c: Val) -> Val
+    requires { IsCarry c }
+    ensures { result ≡ over (λ x y z. value_of (two_result op width x y z)) s d c }
+{
+    match (s, d, c) {
+        (Val::Known(x), Val::Known(y), Val::Known(z)) => {
+            let computed = two_result(op, width, x, y, is_one(z));
+            Val::Known(computed.value())
+        }
+        _ => blurred_all(s, d, c),
     }
 }
 
-/// A result of one value.
-fn gives_one(a: Val, n: u16) -> Val
-    ensures { result ≡ gives (a ∷ []) n }
+/// What format II gives, Known where all that it reads is.
+fn one_value(op: OneOp, width: Width, a: Val, c: Val) -> Val
+    requires { IsCarry c }
+    ensures { result ≡ over (λ x y z. value_of (one_result op width x y)) a c (Val.Known 0) }
 {
-    match a {
-        Val::Known(_) => Val::Known(n),
-        _ => blurred(a),
+    match (a, c) {
+        (Val::Known(x), Val::Known(y)) => {
+            let computed = one_result(op, width, x, is_one(y));
+            Val::Known(computed.value())
+        }
+        _ => blurred_all(a, c, Val::Known(0)),
     }
 }
 
-/// A result of two values.
-fn gives_two(a: Val, b: Val, n: u16) -> Val
-    ensures { result ≡ gives (a ∷ b ∷ []) n }
+/// A value, with flags where they are set.
+fn told(value: Val, sets: bool, flags: Val) -> Told
+    ensures { result ≡ record { value = value; flags = if sets then Some flags else None } }
 {
-    match (a, b) {
-        (Val::Known(_), Val::Known(_)) => Val::Known(n),
-        _ => blurred_both(a, b),
-    }
-}
-
-/// A result of three values.
-fn gives_three(a: Val, b: Val, c: Val, n: u16) -> Val
-    ensures { result ≡ gives (a ∷ b ∷ c ∷ []) n }
-{
-    match (a, b, c) {
-        (Val::Known(_), Val::Known(_), Val::Known(_)) => Val::Known(n),
-        _ => blurred_all(a, b, c),
-    }
-}
-
-/// A value, with flags where the result sets them.
-fn told(value: Val, flags: Val, computed: &Computed) -> Told
-    ensures { result ≡ record { value = value; flags = flags_of computed.now flags } }
-{
-    match computed {
-        Computed::Plain(_) => Told { value, flags: None },
-        Computed::Flagged(_) => Told {
-            value,
-            flags: Some(flags),
-        },
+    Told {
+        value,
+        flags: sets.then_some(flags),
     }
 }
 
 /// Format I, but for a word MOV.
 fn worked(op: TwoOp, width: Width, s: Val, d: Val, c: Val) -> Told
     requires { IsCarry c }
-    ensures { result ≡ told_of (two_reads op s d c) (two_result op width (number s) (number d) (number c)) }
+    ensures { result ≡ told_of (sets_flags op) (two_result op width) s (read_if (reads_dst op) d)
+        (read_if (reads_carry op) c) }
 {
-    let computed = two_result(op, width, number(s), number(d), is_one(c));
-    let n = computed.value();
-    match op {
-        TwoOp::Mov => told(gives_one(s, n), blurred(s), &computed),
-        TwoOp::Addc | TwoOp::Subc | TwoOp::Dadd => {
-            told(gives_three(s, d, c, n), blurred_all(s, d, c), &computed)
-        }
-        _ => told(gives_two(s, d, n), blurred_both(s, d), &computed),
-    }
+    let old = read_if(reads_destination(op), d);
+    let carry = carry_if(reads_carry(op), c);
+    let value = two_value(op, width, s, old, carry);
+    told(value, sets_flags(op), blurred_all(s, old, carry))
 }
 
 /// Format I: of the source, the destination and C.
@@ -140,12 +163,9 @@ fn single(op: OneOp, width: Width, a: Val, c: Val) -> Told
     requires { IsCarry c }
     ensures { result ≡ one_val op width a c }
 {
-    let computed = one_result(op, width, number(a), is_one(c));
-    let n = computed.value();
-    match op {
-        OneOp::Rrc => told(gives_two(a, c, n), blurred_both(a, c), &computed),
-        _ => told(gives_one(a, n), blurred(a), &computed),
-    }
+    let carry = carry_if(one_reads_carry(op), c);
+    let value = one_value(op, width, a, carry);
+    told(value, one_sets_flags(op), blurred_all(a, carry, Val::Known(0)))
 }
 
 /// The low byte, or the word.

@@ -9,9 +9,8 @@ use Rattle.sm_words.specs.declared.width.Width.TheVariants.{Byte, Word}
 use Rattle.insn_decode.specs.declared.insn.Insn.{Insn}
 use Rattle.flow_rule.specs.declared.Val.{Val}
 use Rattle.flow_rule.specs.declared.Val.TheVariants.{Known, Away, Public, Secret}
-use Rattle.flow_rule.specs.Values.{is_secret, join, join_each, over_one, blurred, on_known, narrow, val, kept_val, put_val}
+use Rattle.flow_rule.specs.Values.{is_secret, join, join_each, over, over_one, blurred, on_known, narrow, val, kept_val, put_val}
 use Rattle.flow_rule.specs.Does.{past_val}
-use Rattle.flow_rule.proofs.Meaning.{over, over_single}
 
 -- joining the second to the first changes nothing
 abbrev pub AbsorbsVal : Val → Val → Type 0
@@ -81,13 +80,12 @@ over_keeps f t u s t' u' s' p q r =
     over_public f t' u' s' (not_secret t t' refl p) (not_secret u u' refl q) (not_secret s s' refl r)
 
 pub over_one_keeps : (f : ℕ → ℕ) (t v : Val) → AbsorbsVal t v → AbsorbsVal (over_one f t) (over_one f v)
-over_one_keeps f t v p =
-    let k : AbsorbsVal (over (λ x y z. f x) t (Known 0) (Known 0)) (over (λ x y z. f x) v (Known 0) (Known 0)) = over_keeps (λ x y z. f x) t (Known 0) (Known 0) v (Known 0) (Known 0) p refl refl in
-    subst (λ i. AbsorbsVal i (over_one f v)) (sym (over_single (λ x y z. f x) t)) (subst (λ i. AbsorbsVal (over (λ x y z. f x) t (Known 0) (Known 0)) i) (sym (over_single (λ x y z. f x) v)) k)
-
-pub over_two_keeps : (f : ℕ → ℕ → ℕ) (t u t' u' : Val) → AbsorbsVal t t' → AbsorbsVal u u' →
-    AbsorbsVal (over (λ x y z. f x y) t u (Known 0)) (over (λ x y z. f x y) t' u' (Known 0))
-over_two_keeps f t u t' u' p q = over_keeps (λ x y z. f x y) t u (Known 0) t' u' (Known 0) p q refl
+over_one_keeps f (Known a) (Known b) p = ap f p
+over_one_keeps f Away Away p = tt
+over_one_keeps f Public Secret p = absurd p
+over_one_keeps f Public v p = tt
+over_one_keeps f Secret v p = tt
+over_one_keeps f _ _ p = absurd p
 
 blurred_keeps : (t v : Val) → AbsorbsVal t v → AbsorbsVal (blurred (t ∷ [])) (blurred (v ∷ []))
 blurred_keeps Secret v p = tt

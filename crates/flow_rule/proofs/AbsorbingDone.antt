@@ -5,6 +5,7 @@ use Rattle.sm_words.specs.Words.{nth, add16, bit, word_at}
 use Rattle.insn_decode.specs.Code.{words_of, distance}
 use Rattle.cpu_step.specs.Effect.{value_of, two_result, one_result, in_memory}
 use Rattle.cpu_step.specs.Plan.{increment_of, reads_dst, writes_dst}
+use Rattle.cpu_step.specs.declared.result.Computed.{Computed}
 use Rattle.sm_words.specs.declared.width.Width.{Width}
 use Rattle.sm_words.specs.declared.width.Width.TheVariants.{Byte, Word}
 use Rattle.insn_decode.specs.declared.insn.TwoOp.{TwoOp}
@@ -24,12 +25,11 @@ use Rattle.flow_rule.specs.declared.Val.{Val}
 use Rattle.flow_rule.specs.declared.Val.TheVariants.{Known, Away, Public, Secret}
 use Rattle.flow_rule.specs.declared.Reach.{Reach}
 use Rattle.flow_rule.specs.declared.Told.{Told}
-use Rattle.flow_rule.specs.Values.{number, over_one, blurred, val, put_val}
-use Rattle.flow_rule.specs.Does.{place_val, stepped_val, lowered_val, reach_if, one_reach, plan_val, word_no, half, read_at, read_val, write_at, writes_val, Done_val, two_reads, told_of, two_val, one_val, set_flags_by, given_val, after_val, into_register_val, written_val, clears, clears_flags, cleared_if, carry_val, one_done_val, does_val}
+use Rattle.flow_rule.specs.Values.{over_one, blurred, val, put_val}
+use Rattle.flow_rule.specs.Does.{place_val, stepped_val, lowered_val, reach_if, one_reach, plan_val, word_no, half, read_at, read_val, write_at, writes_val, Done_val, reads_carry, sets_flags, one_reads_carry, one_sets_flags, read_if, told_of, two_val, one_val, set_flags_by, given_val, after_val, into_register_val, written_val, clears, clears_flags, cleared_if, carry_val, one_done_val, does_val}
 use Rattle.flow_rule.specs.Violations.{reach_violations, reach_violations_by}
-use Rattle.flow_rule.proofs.Meaning.{read_if, flags_if, reads_carry, sets_flags, worked, two_is, one_reads_carry, one_sets_flags, one_worked, one_is}
 use Rattle.flow_rule.proofs.Plans.{none_left, none_right}
-use Rattle.flow_rule.proofs.Absorbing.{AbsorbsVal, AbsorbsEach, AbsorbsOption, over_keeps, over_one_keeps, over_two_keeps, blurred_all_keeps, narrow_keeps, nth_keeps, set_keeps, drop_keeps, put_keeps, past_keeps, EvenPc, put_even, past_even}
+use Rattle.flow_rule.proofs.Absorbing.{AbsorbsVal, AbsorbsEach, AbsorbsOption, over_keeps, over_one_keeps, blurred_all_keeps, narrow_keeps, nth_keeps, set_keeps, drop_keeps, put_keeps, past_keeps, EvenPc, put_even, past_even}
 
 -- ---- accesses
 place_keeps : (o : Operand) (ts vs : List Val) (ext : ℕ) → AbsorbsEach ts vs →
@@ -174,37 +174,30 @@ if_keeps : (b : Bool) (t v : Val) → AbsorbsVal t v → AbsorbsVal (read_if b t
 if_keeps true t v p = p
 if_keeps false t v p = refl
 
-flags_keep : (b : Bool) (t v : Val) → AbsorbsVal t v → AbsorbsOption (flags_if b t) (flags_if b v)
+flags_keep : (b : Bool) (t v : Val) → AbsorbsVal t v → AbsorbsOption (cond b (Some t) None) (cond b (Some v) None)
 flags_keep true t v p = p
 flags_keep false t v p = tt
 
-worked_keeps : (op : TwoOp) (w : Width) (s d c s' d' c' : Val) → AbsorbsVal s s' → AbsorbsVal d d' → AbsorbsVal c c' →
-    Tells (worked op w s d c) (worked op w s' d' c')
-worked_keeps op w s d c s' d' c' p q r =
+told_keeps : (b : Bool) (f : ℕ → ℕ → ℕ → Computed) (s d c s' d' c' : Val) → AbsorbsVal s s' → AbsorbsVal d d' → AbsorbsVal c c' →
+    Tells (told_of b f s d c) (told_of b f s' d' c')
+told_keeps b f s d c s' d' c' p q r =
     record {
-      value = over_keeps (λ x y z. value_of (two_result op w x y z)) s d c s' d' c' p q r;
-      flags = flags_keep (sets_flags op) (blurred (s ∷ d ∷ c ∷ [])) (blurred (s' ∷ d' ∷ c' ∷ [])) (blurred_all_keeps s d c s' d' c' p q r);
+      value = over_keeps (λ x y z. value_of (f x y z)) s d c s' d' c' p q r;
+      flags = flags_keep b (blurred (s ∷ d ∷ c ∷ [])) (blurred (s' ∷ d' ∷ c' ∷ [])) (blurred_all_keeps s d c s' d' c' p q r);
     }
 
 two_keeps : (op : TwoOp) (w : Width) (s d c s' d' c' : Val) → AbsorbsVal s s' → AbsorbsVal d d' → AbsorbsVal c c' →
     Tells (two_val op w s d c) (two_val op w s' d' c')
 two_keeps Mov Word s d c s' d' c' p q r = record { value = p; flags = tt }
 two_keeps op w s d c s' d' c' p q r =
-    let k = worked_keeps op w s (read_if (reads_dst op) d) (read_if (reads_carry op) c) s' (read_if (reads_dst op) d') (read_if (reads_carry op) c') p (if_keeps (reads_dst op) d d' q) (if_keeps (reads_carry op) c c' r) in
-    subst (λ t. Tells t (told_of (two_reads op s' d' c') (two_result op w (number s') (number d') (number c')))) (sym (two_is op w s d c))
-    (subst (λ t. Tells (worked op w s (read_if (reads_dst op) d) (read_if (reads_carry op) c)) t) (sym (two_is op w s' d' c')) k)
+    told_keeps (sets_flags op) (two_result op w) s (read_if (reads_dst op) d) (read_if (reads_carry op) c) s' (read_if (reads_dst op) d') (read_if (reads_carry op) c')
+    p (if_keeps (reads_dst op) d d' q) (if_keeps (reads_carry op) c c' r)
 
 one_keeps : (op : OneOp) (w : Width) (a c a' c' : Val) → AbsorbsVal a a' → AbsorbsVal c c' →
     Tells (one_val op w a c) (one_val op w a' c')
 one_keeps op w a c a' c' p q =
-    let x = read_if (one_reads_carry op) c in
-    let y = read_if (one_reads_carry op) c' in
-    let k : AbsorbsVal x y = if_keeps (one_reads_carry op) c c' q in
-    let told : Tells (one_worked op w a x) (one_worked op w a' y) = record {
-      value = over_two_keeps (λ x y. value_of (one_result op w x y)) a x a' y p k;
-      flags = flags_keep (one_sets_flags op) (blurred (a ∷ x ∷ [])) (blurred (a' ∷ y ∷ [])) (blurred_all_keeps a x (Known 0) a' y (Known 0) p k refl);
-    } in
-    subst (λ t. Tells t (one_val op w a' c')) (sym (one_is op w a c)) (subst (λ t. Tells (one_worked op w a x) t) (sym (one_is op w a' c')) told)
+    told_keeps (one_sets_flags op) (λ x y z. one_result op w x y) a (read_if (one_reads_carry op) c) (Known 0) a' (read_if (one_reads_carry op) c') (Known 0)
+    p (if_keeps (one_reads_carry op) c c' q) refl
 
 set_flags_keep : (f g : Option Val) (ts vs : List Val) → AbsorbsOption f g → AbsorbsEach ts vs →
     AbsorbsEach (set_flags_by f ts) (set_flags_by g vs)

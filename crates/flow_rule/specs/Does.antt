@@ -7,15 +7,14 @@ use Rattle.insn_decode.specs.Code.{words_of, length_of, distance}
 use Rattle.sm_words.specs.Status.{has_all_flags}
 use Rattle.sm_words.specs.Sums.{low}
 use Rattle.cpu_step.specs.declared.result.Computed.{Computed}
-use Rattle.cpu_step.specs.declared.result.Computed.TheVariants.{Plain, Flagged}
 use Rattle.cpu_step.specs.Effect.{value_of, two_result, one_result, in_memory}
 use Rattle.cpu_step.specs.Plan.{increment_of, reads_dst, writes_dst}
 use Rattle.sm_words.specs.declared.width.Width.{Width}
 use Rattle.sm_words.specs.declared.width.Width.TheVariants.{Byte, Word}
 use Rattle.insn_decode.specs.declared.insn.TwoOp.{TwoOp}
-use Rattle.insn_decode.specs.declared.insn.TwoOp.TheVariants.{Mov, Addc, Subc, Dadd, Bic}
+use Rattle.insn_decode.specs.declared.insn.TwoOp.TheVariants.{Mov, Addc, Subc, Dadd, Bic, Bis}
 use Rattle.insn_decode.specs.declared.insn.OneOp.{OneOp}
-use Rattle.insn_decode.specs.declared.insn.OneOp.TheVariants.{Rrc, Push, Call}
+use Rattle.insn_decode.specs.declared.insn.OneOp.TheVariants.{Rrc, Rra, Sxt, Push, Call}
 use Rattle.insn_decode.specs.declared.insn.Operand.{Operand}
 use Rattle.insn_decode.specs.declared.insn.Operand.TheVariants.{Reg, Const, Imm, Indexed, Symbolic, Absolute, Indirect, Increment}
 use Rattle.insn_decode.specs.declared.insn.Insn.{Insn}
@@ -29,7 +28,7 @@ use Rattle.arm_balance.specs.Met.{text_byte}
 use Rattle.pc_access.specs.Rights.{misaligned}
 use Rattle.flow_rule.specs.declared.Val.{Val}
 use Rattle.flow_rule.specs.declared.Val.TheVariants.{Known, Public, Secret}
-use Rattle.flow_rule.specs.Values.{number, gives, over_one, blurred, narrow, val, put_val}
+use Rattle.flow_rule.specs.Values.{over, over_one, blurred, narrow, val, put_val}
 
 -- ---- accesses
 
@@ -121,35 +120,44 @@ pub record Done_val : Type 0 where
   pub core : List Val
   pub stored : List Val
 
--- what format I reads of its source, its destination and C
-abbrev pub two_reads : TwoOp → Val → Val → Val → List Val
-two_reads Mov s d c = s ∷ []
-two_reads Addc s d c = s ∷ d ∷ c ∷ []
-two_reads Subc s d c = s ∷ d ∷ c ∷ []
-two_reads Dadd s d c = s ∷ d ∷ c ∷ []
-two_reads op s d c = s ∷ d ∷ []
+abbrev pub reads_carry : TwoOp → Bool
+reads_carry Addc = true
+reads_carry Subc = true
+reads_carry Dadd = true
+reads_carry _ = false
 
--- format II reads its operand, and RRC C
-abbrev pub one_reads : OneOp → Val → Val → List Val
-one_reads Rrc a c = a ∷ c ∷ []
-one_reads op a c = a ∷ []
+abbrev pub sets_flags : TwoOp → Bool
+sets_flags Mov = false
+sets_flags Bic = false
+sets_flags Bis = false
+sets_flags _ = true
 
--- what a result makes of flags, where it sets them
-abbrev pub flags_of : Computed → Val → Option Val
-flags_of (Plain n) v = None
-flags_of (Flagged s) v = Some v
+abbrev pub one_reads_carry : OneOp → Bool
+one_reads_carry Rrc = true
+one_reads_carry _ = false
 
--- what is told of a result of these reads
-abbrev pub told_of : List Val → Computed → Told
-told_of reads r = record { value = gives reads (value_of r); flags = flags_of r (blurred reads) }
+abbrev pub one_sets_flags : OneOp → Bool
+one_sets_flags Rrc = true
+one_sets_flags Rra = true
+one_sets_flags Sxt = true
+one_sets_flags _ = false
+
+-- what an operation does not read counts as 0
+abbrev pub read_if : Bool → Val → Val
+read_if b v = if b then v else Known 0
+
+-- what is told of an operation of three values, where it sets flags or not
+abbrev pub told_of : Bool → (ℕ → ℕ → ℕ → Computed) → Val → Val → Val → Told
+told_of sets f a b c =
+    record { value = over (λ x y z. value_of (f x y z)) a b c; flags = if sets then Some (blurred (a ∷ b ∷ c ∷ [])) else None }
 
 -- a word MOV copies
 abbrev pub two_val : TwoOp → Width → Val → Val → Val → Told
 two_val Mov Word s d c = record { value = s; flags = None }
-two_val op w s d c = told_of (two_reads op s d c) (two_result op w (number s) (number d) (number c))
+two_val op w s d c = told_of (sets_flags op) (two_result op w) s (read_if (reads_dst op) d) (read_if (reads_carry op) c)
 
 abbrev pub one_val : OneOp → Width → Val → Val → Told
-one_val op w a c = told_of (one_reads op a c) (one_result op w (number a) (number c))
+one_val op w a c = told_of (one_sets_flags op) (λ x y z. one_result op w x y) a (read_if (one_reads_carry op) c) (Known 0)
 
 abbrev pub set_flags_by : Option Val → List Val → List Val
 set_flags_by None core = core
