@@ -1,5 +1,5 @@
 -- The memory of a linked image holds bytes.
-use Rattle.std.proofs.Common.{◌⊎◌, inl, inr, ℕ, suc, ◌+◌, ◌-◌, ◌*◌, ◌/◌, ◌%◌, ◌<◌, ◌≤◌, List, [], ◌∷◌, ◌++◌, take, drop, length, Bool, true, false, cond, Result, Ok, Err, arith, fold}
+use Rattle.std.proofs.Common.{◌⊎◌, inl, inr, ℕ, suc, ◌+◌, ◌-◌, ◌*◌, ◌/◌, ◌%◌, ◌<◌, ◌≤◌, List, [], ◌∷◌, ◌++◌, take, drop, length, Bool, true, false, cond, arith, fold}
 use Rattle.std.specs.Prelude.{All, slice_index}
 use Rattle.std.specs.List.{flat_map}
 use Rattle.std.proofs.lemmas.Bool.{cases_lt}
@@ -8,15 +8,15 @@ use Rattle.std.proofs.lemmas.List.Elements.{All-nil, All-cons, All-append, All-t
 use Rattle.elf_objects.specs.declared.object.SectionHead.{SectionHead}
 use Rattle.elf_objects.specs.declared.object.Relocation.{Relocation}
 use Rattle.elf_objects.specs.Object.{ObjectValue}
-use Rattle.reloc_apply.specs.declared.RelocFault.{RelocFault}
-use Rattle.reloc_apply.proofs.FaultLemmas.{IsByte, HasBytes, keeps_bytes}
+use Rattle.reloc_apply.specs.Fields.{with_field}
+use Rattle.reloc_apply.proofs.FaultLemmas.{IsByte, keeps_bytes}
 use Rattle.layout_file.specs.Values.{VectorValue, ModuleValue, LayoutValue}
 use Rattle.link_symbols.specs.Passes.{NumberedObject, numbered_objects, numbered_objects_from, part, fold_at}
 use Rattle.link_symbols.specs.Parts.{is_loaded_head}
 use Rattle.linker.specs.Numbers.{Linking, numbers_in}
 use Rattle.linker.specs.Bytes.{bytes_put, memory_part, word_bytes}
 use Rattle.linker.specs.Sections.{put_section, put_sections}
-use Rattle.linker.specs.Fields.{put_field, put_fields, with_field, or_same, target_address, target_size, symbol_sum}
+use Rattle.linker.specs.Fields.{put_field, put_fields, field_place, target_address, target_size, symbol_sum}
 use Rattle.linker.specs.Stubs.{word_named, stub_of, put_stub, put_vector}
 use Rattle.linker.specs.Image.{memory_by, blank_memory}
 use Rattle.linker.specs.Laws.{AreBytes}
@@ -65,18 +65,14 @@ all_sections address (x ∷ xs) m f h = all_sections address xs (put_sections ad
 
 -- ---- fields
 
-same_bytes : (bytes : List ℕ) (r : Result (List ℕ) RelocFault) → AreBytes bytes → HasBytes r → AreBytes (or_same bytes r)
-same_bytes bytes (Ok new) h b = b
-same_bytes bytes (Err f) h b = h
-
 field_bytes : (address : ℕ → ℕ) (numbers : List ℕ) (x : NumberedObject) (m : List ℕ) (r : Relocation) → AreBytes m → AreBytes (put_field address numbers x m r)
 unfolding put_field
 field_bytes address numbers x m r h =
     let at = target_address address x r in
     let old = memory_part m at (target_size x r) in
     let b = All-take IsByte (target_size x r) (drop at m) (All-drop IsByte at m h) in
-    put_bytes m at (or_same old (with_field address numbers x r old)) h
-    (same_bytes old (with_field address numbers x r old) b (keeps_bytes r.kind ((at + r.offset) % 65536) (symbol_sum numbers r) r.offset old b))
+    put_bytes m at (with_field r.kind (field_place address x r) (symbol_sum numbers r) r.offset old) h
+    (keeps_bytes r.kind (field_place address x r) (symbol_sum numbers r) r.offset old b)
 
 fields_by : (address : ℕ → ℕ) (numbers : List ℕ) (x : NumberedObject) (rs : List Relocation) (m : List ℕ) → AreBytes m → AreBytes (fold (put_field address numbers x) m rs)
 fields_by address numbers x [] m h = h

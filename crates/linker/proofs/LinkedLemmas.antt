@@ -10,7 +10,10 @@ use Rattle.linker.specs.Image.{Links, linked_image, linked_memory, linked_table,
 use Rattle.linker.specs.Numbers.{linking_of, region_end}
 use Rattle.linker.specs.Placement.{starts_of, address_at}
 use Rattle.link_symbols.specs.Resolved.{items_of}
+use Rattle.linker.specs.Fields.{reloc_fault_in}
 use Rattle.linker.specs.Refusals.{link_fault_of, overfull}
+use Rattle.mod_layout.specs.First.{first_in}
+use Rattle.link_symbols.specs.Passes.{numbered_objects}
 use Rattle.link_symbols.specs.Refusals.{no_place, unresolved}
 use Rattle.linker.specs.internal.Groups.{fill_fault}
 use Rattle.mod_layout.proofs.FirstLemmas.{both_none}
@@ -34,6 +37,10 @@ pub none_over : (layout : LayoutValue) (os : List ObjectValue) → link_fault_of
 unfolding fill_fault
 none_over layout os e = (both_none _ _ (both_none _ _ (sym (in_groups layout os) ∙ e)).1).0
 
+none_refused : (layout : LayoutValue) (os : List ObjectValue) → link_fault_of layout os ≡ None → first_in (reloc_fault_in (linking_of layout os)) (numbered_objects os) ≡ None
+unfolding fill_fault
+none_refused layout os e = (both_none _ _ (both_none _ _ (sym (in_groups layout os) ∙ e)).1).1
+
 pub memory_is : (layout : LayoutValue) (os : List ObjectValue) (image : Image) → Links layout os image → image.memory ≡ memory_by (linking_of layout os) (region_end layout os) layout os blank_memory
 unfolding linked_image linked_memory
 memory_is layout os image h = ap (λ (i : Image). i.memory) h.linked
@@ -48,7 +55,7 @@ linked_is_image layout os s key are bytes e =
     let room = items_fit (starts_of layout) (items_of layout os) (2 + 2 * length layout.modules) (address_at (starts_of layout) (items_of layout os)) (items_are_in layout os) (starts_high layout s) kept (λ k. refl) in
     let fit = all_fit layout (address_at (starts_of layout) (items_of layout os)) os are (all_placed layout os e) room in
     let stubs = stubs_fit layout (items_of layout os) end s (λ r. refl) kept in
-    let clear = memory_clear (linking_of layout os) end layout os fit (ends_low layout os s over) stubs s.vectors_kept.below_16 in
+    let clear = memory_clear (linking_of layout os) end layout os fit (none_refused layout os e) (ends_low layout os s over) stubs s.vectors_kept.below_16 in
     let made = table_made end layout s (table_fits end layout s (spans_of layout end over stubs)) in
     let sp = s.small_handler_sp in
     record {

@@ -1,11 +1,11 @@
 -- Relocated fields in a memory, and which are refused.
 use Rattle.std.specs.Prelude.{ℤ, ℕ, ◌+◌, List, Option, option_map, Result, ◌%◌, fold, slice_get, ◌-◌, slice_index, pos, ◌+ℤ◌, replicate}
 use Rattle.std.specs.Option.{option_map_or}
-use Rattle.std.specs.Result.{result_err, result_unwrap_or}
+use Rattle.std.specs.Result.{result_err}
 use Rattle.elf_objects.specs.declared.object.SectionHead.{SectionHead}
 use Rattle.elf_objects.specs.declared.object.Relocation.{Relocation}
 use Rattle.reloc_apply.specs.declared.RelocFault.{RelocFault}
-use Rattle.reloc_apply.specs.Fields.{relocated}
+use Rattle.reloc_apply.specs.Fields.{relocated, with_field}
 use Rattle.link_symbols.specs.declared.fault.LinkFault.{LinkFault}
 use Rattle.mod_layout.specs.First.{first_in}
 use Rattle.link_symbols.specs.Passes.{NumberedObject}
@@ -27,17 +27,15 @@ target_address address x r = address (x.first + r.target)
 abbrev pub symbol_sum : List ℕ → Relocation → ℤ
 symbol_sum numbers r = pos (slice_index numbers r.symbol) +ℤ r.addend
 
--- these bytes of a section with one field more, or why not
-abbrev pub with_field : (ℕ → ℕ) → List ℕ → NumberedObject → Relocation → List ℕ → Result (List ℕ) RelocFault
-with_field address numbers x r bytes = relocated r.kind ((target_address address x r + r.offset) % 65536) (symbol_sum numbers r) r.offset bytes
-
-abbrev pub or_same : List ℕ → Result (List ℕ) RelocFault → List ℕ
-or_same bytes new = result_unwrap_or new bytes
+-- where a field stands
+abbrev pub field_place : (ℕ → ℕ) → NumberedObject → Relocation → ℕ
+field_place address x r = (target_address address x r + r.offset) % 65536
 
 -- the memory with one field more
 unfoldable pub put_field : (ℕ → ℕ) → List ℕ → NumberedObject → List ℕ → Relocation → List ℕ
-put_field address numbers x memory r = let bytes = memory_part memory (target_address address x r) (target_size x r) in
-    bytes_put memory (target_address address x r) (or_same bytes (with_field address numbers x r bytes))
+put_field address numbers x memory r =
+    let bytes = memory_part memory (target_address address x r) (target_size x r) in
+    bytes_put memory (target_address address x r) (with_field r.kind (field_place address x r) (symbol_sum numbers r) r.offset bytes)
 
 -- in the order of the object's list; where fields overlap, the later one counts
 abbrev pub put_fields : Linking → List ℕ → NumberedObject → List ℕ
@@ -48,7 +46,8 @@ abbrev pub reloc_fault_by : NumberedObject → Relocation → Result (List ℕ) 
 reloc_fault_by x r new = option_map (fault.Reloc x.number r.table r.entry) (result_err new)
 
 unfoldable pub reloc_fault : (ℕ → ℕ) → List ℕ → NumberedObject → Relocation → Option LinkFault
-reloc_fault address numbers x r = reloc_fault_by x r (with_field address numbers x r (replicate (target_size x r) 0))
+reloc_fault address numbers x r =
+    reloc_fault_by x r (relocated r.kind (field_place address x r) (symbol_sum numbers r) r.offset (replicate (target_size x r) 0))
 
 abbrev pub reloc_fault_in : Linking → NumberedObject → Option LinkFault
 reloc_fault_in l x = first_in (reloc_fault l.address (numbers_in l x) x) x.object.relocations

@@ -1,5 +1,5 @@
 -- Objects link exactly where the conditions hold.
-use Rattle.std.proofs.Common.{◌≡◌, ◌≢◌, ℕ, zero, suc, ◌+◌, ◌*◌, ◌%◌, ◌<◌, ◌≤◌, pos, List, [], ◌∷◌, length, get_or, Option, Some, None, Result, Ok, Err, Bool, true, false, not, ◌&&◌, ◌||◌, ◌==◌, nat_lt, is_none, IsOk, IfSome, replicate, refl, ap, sym, ◌∙◌, subst, arith}
+use Rattle.std.proofs.Common.{◌≡◌, ◌≢◌, ℕ, zero, suc, ◌+◌, ◌*◌, ◌%◌, ◌<◌, ◌≤◌, pos, List, [], ◌∷◌, length, get_or, Option, Some, None, Bool, true, false, not, ◌&&◌, ◌||◌, ◌==◌, nat_lt, is_none, IfSome, replicate, refl, ap, sym, ◌∙◌, subst, arith}
 use Rattle.std.specs.Prelude.{All, slice_get, if◌then◌else◌}
 use Rattle.std.proofs.lemmas.Bool.{and_parts}
 use Rattle.std.proofs.lemmas.Bool.Decides.{nat_tests}
@@ -9,9 +9,7 @@ use Rattle.elf_objects.specs.declared.object.SectionHead.{SectionHead}
 use Rattle.elf_objects.specs.declared.object.Symbol.{Symbol}
 use Rattle.elf_objects.specs.declared.object.Relocation.{Relocation}
 use Rattle.layout_file.specs.Values.{VectorValue, ModuleValue, LayoutValue}
-use Rattle.reloc_apply.specs.declared.RelocFault.{RelocFault}
-use Rattle.reloc_apply.specs.Applies.{Applies}
-use Rattle.reloc_apply.proofs.AppliesLemmas.{ok_applies, applies_ok}
+use Rattle.reloc_apply.proofs.AppliesLemmas.{applies_ok}
 use Rattle.link_symbols.specs.declared.fault.LinkFault.{LinkFault}
 use Rattle.link_symbols.specs.declared.fault.LinkFault.TheVariants as fault
 use Rattle.link_symbols.specs.declared.fault.Region.{Region}
@@ -30,11 +28,12 @@ use Rattle.link_symbols.specs.Names.{stands_for, symbol_meaning}
 use Rattle.link_symbols.specs.Resolved.{items_of}
 use Rattle.linker.specs.Placement.{item_at, text_of, ram_of}
 use Rattle.linker.specs.Numbers.{Linking, linking_of, numbers_in, region_end}
-use Rattle.linker.specs.Fields.{target_address, target_size, symbol_sum, reloc_fault, reloc_fault_by, reloc_fault_in}
+use Rattle.linker.specs.Fields.{field_place, target_size, symbol_sum, reloc_fault, reloc_fault_in}
 use Rattle.link_symbols.specs.Refusals.{no_place, no_place_at, no_place_in, is_used, undefined, undefined_at, undefined_in, no_vector, no_vector_at, no_entry, no_entry_at, no_entry_in, is_code_of, is_module_entry, is_entry_in, elsewhere, elsewhere_at, elsewhere_in, unresolved}
 use Rattle.linker.specs.Refusals.{overfull, overfull_at, overfull_in, link_fault_of}
 use Rattle.mod_layout.proofs.FirstLemmas.{both_none}
 use Rattle.linker.proofs.BoundLemmas.{not_over}
+use Rattle.linker.proofs.RelocLemmas.{ok_none, AppliesTo, applies}
 use Rattle.linker_laws.specs.Conditions.{SectionsPlaced, UsedStand, VectorsStand, IsEntryPlace, EntriesStand, ContentsFit, RelocationsApply, CanLink, LinksExactly}
 use Rattle.linker_laws.proofs.Searches.{or_none, in_none, none_in, at_none, none_at, refused_not, not_refused, some_is, is_some_by, got, gets}
 use Rattle.linker_laws.proofs.Strong.{duplicates, no_duplicates}
@@ -286,29 +285,11 @@ not_overfull layout end h =
 
 -- ---- relocations
 
-none_ok : (x : NumberedObject) (r : Relocation) (t : Result (List ℕ) RelocFault) → reloc_fault_by x r t ≡ None → IsOk t
-none_ok x r (Ok bytes) e = refl
-none_ok x r (Err f) e = cc
-
-ok_none : (x : NumberedObject) (r : Relocation) (t : Result (List ℕ) RelocFault) → IsOk t → reloc_fault_by x r t ≡ None
-ok_none x r (Ok bytes) e = refl
-ok_none x r (Err f) e = cc
-
-abbrev AppliesTo : (ℕ → ℕ) → List ℕ → NumberedObject → Relocation → ℕ → Type 0
-AppliesTo address numbers x r size = Applies r.kind ((target_address address x r + r.offset) % 65536) (symbol_sum numbers r) r.offset size
-
-applies : (address : ℕ → ℕ) (numbers : List ℕ) (x : NumberedObject) (r : Relocation) →
-    reloc_fault address numbers x r ≡ None → AppliesTo address numbers x r (target_size x r)
-unfolding reloc_fault
-applies address numbers x r e =
-    subst (AppliesTo address numbers x r) (length-replicate (target_size x r) 0)
-    (ok_applies r.kind ((target_address address x r + r.offset) % 65536) (symbol_sum numbers r) r.offset (replicate (target_size x r) 0) (none_ok x r _ e))
-
 not_applies : (address : ℕ → ℕ) (numbers : List ℕ) (x : NumberedObject) (r : Relocation) →
     AppliesTo address numbers x r (target_size x r) → reloc_fault address numbers x r ≡ None
 unfolding reloc_fault
 not_applies address numbers x r h =
-    ok_none x r _ (applies_ok r.kind ((target_address address x r + r.offset) % 65536) (symbol_sum numbers r) r.offset (replicate (target_size x r) 0)
+    ok_none x r _ (applies_ok r.kind (field_place address x r) (symbol_sum numbers r) r.offset (replicate (target_size x r) 0)
     (subst (AppliesTo address numbers x r) (sym (length-replicate (target_size x r) 0)) h))
 
 pub relocations : (l : Linking) (objects : List ObjectValue) →

@@ -1,5 +1,5 @@
 -- When objects link, by conditions over every section, symbol, relocation, vector, entry and region.
-use Rattle.std.specs.Prelude.{◌≡◌, ◌≢◌, ◌≤◌, ◌<◌, ◌↔◌, ◌+◌, ◌%◌, ℕ, List, [], length, true, Option, Some, None, IfSome, All, AllPairs, slice_get, slice_index_or}
+use Rattle.std.specs.Prelude.{◌≡◌, ◌≢◌, ◌≤◌, ◌<◌, ◌↔◌, ◌%◌, ℕ, List, [], length, true, Option, Some, None, IfSome, All, AllPairs, slice_get, slice_index_or}
 use Rattle.elf_objects.specs.Object.{ObjectValue}
 use Rattle.elf_objects.specs.declared.object.Binding.TheVariants as binding
 use Rattle.layout_file.specs.Values.{VectorValue, ModuleValue, LayoutValue}
@@ -15,7 +15,7 @@ use Rattle.link_symbols.specs.Names.{stands_for, symbol_meaning}
 use Rattle.link_symbols.specs.Resolved.{items_of}
 use Rattle.linker.specs.Placement.{item_at, text_of, ram_of}
 use Rattle.linker.specs.Numbers.{Linking, linking_of, numbers_in, region_end}
-use Rattle.linker.specs.Fields.{target_address, target_size, symbol_sum}
+use Rattle.linker.specs.Fields.{field_place, target_size, symbol_sum}
 use Rattle.linker.specs.Refusals.{link_fault_of}
 
 -- each loaded section goes to a part of a region
@@ -70,7 +70,7 @@ pub record ContentsFit (layout : LayoutValue) (end : ℕ → ℕ) : Type 0 where
 -- each relocation applies to its section's bytes, at its address
 abbrev pub RelocationsApply : Linking → List ObjectValue → Type 0
 RelocationsApply l objects = All (λ x. All (λ r.
-    Applies r.kind ((target_address l.address x r + r.offset) % 65536) (symbol_sum (numbers_in l x) r) r.offset (target_size x r))
+    Applies r.kind (field_place l.address x r) (symbol_sum (numbers_in l x) r) r.offset (target_size x r))
     x.object.relocations) (numbered_objects objects)
 
 pub record CanLink (layout : LayoutValue) (objects : List ObjectValue) : Type 0 where

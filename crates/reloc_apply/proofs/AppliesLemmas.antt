@@ -6,7 +6,7 @@ use Rattle.std.proofs.lemmas.Bool.Decides.{nat_tests}
 use Rattle.reloc_apply.specs.declared.RelocFault.{RelocFault}
 use Rattle.reloc_apply.specs.declared.RelocFault.TheVariants as fault
 use Rattle.reloc_apply.specs.declared.Row.{Row}
-use Rattle.reloc_apply.specs.Fields.{relocated, relocated_by, relocated_at, field_written, row_of, field_size, limit_of, is_in_bounds, is_odd_integer, is_jump_field, difference_of, field_value, kept_of, modulo, with_number}
+use Rattle.reloc_apply.specs.Fields.{relocated, relocated_by, relocated_at, field_written, with_field, row_of, field_size, limit_of, is_in_bounds, is_odd_integer, is_jump_field, difference_of, field_value, kept_of, modulo, with_number}
 use Rattle.reloc_apply.specs.Applies.{FieldTakes, Applies, no_field, a_field}
 
 -- the number that a field is given
@@ -93,22 +93,19 @@ not_0 kind r e = by (kind == 0) refl
     by false q = refl
     by true q = let z : kind ≡ 0 = grind (arith, nat_tests) in let n : None ≡ Some r = sym none_at_0 ∙ (ap row_of (sym z) ∙ e) in cc
 
--- the bytes with a field that is taken
-pub relocated_is : (kind place : ℕ) (sum : ℤ) (offset : ℕ) (bytes : List ℕ) (r : Row) → row_of kind ≡ Some r →
-    FieldTakes r (difference_of r.relative place sum) offset (length bytes) →
-    relocated kind place sum offset bytes ≡ Ok (with_number bytes offset (field_size r.field) (number_of r (difference_of r.relative place sum) bytes offset))
-unfolding relocated
-relocated_is kind place sum offset bytes r e t = rw (not_0 kind r e, e) (takes_ok r (difference_of r.relative place sum) offset bytes t)
-
-pub relocated_0 : (kind place : ℕ) (sum : ℤ) (offset : ℕ) (bytes : List ℕ) → kind ≡ 0 →
-    relocated kind place sum offset bytes ≡ Ok bytes
-unfolding relocated
-relocated_0 kind place sum offset bytes e = let t : (kind == 0) ≡ true = grind (arith, nat_tests) in rw t refl
+-- a relocation that applies gives the bytes with its field
+pub applies_gives : (kind place : ℕ) (sum : ℤ) (offset : ℕ) (bytes : List ℕ) →
+    Applies kind place sum offset (length bytes) → relocated kind place sum offset bytes ≡ Ok (with_field kind place sum offset bytes)
+unfolding relocated with_field
+applies_gives kind place sum offset bytes (no_field e) =
+    let t : (kind == 0) ≡ true = ap (λ (k : ℕ). k == 0) e in
+    let n : row_of kind ≡ None = ap row_of e ∙ none_at_0 in
+    rw (t, n) refl
+applies_gives kind place sum offset bytes (a_field r e t) = rw (not_0 kind r e, e) (takes_ok r (difference_of r.relative place sum) offset bytes t)
 
 pub applies_ok : (kind place : ℕ) (sum : ℤ) (offset : ℕ) (bytes : List ℕ) →
     Applies kind place sum offset (length bytes) → IsOk (relocated kind place sum offset bytes)
-applies_ok kind place sum offset bytes (no_field e) = subst (λ (r : Result (List ℕ) RelocFault). IsOk r) (sym (relocated_0 kind place sum offset bytes e)) refl
-applies_ok kind place sum offset bytes (a_field r e t) = subst (λ (x : Result (List ℕ) RelocFault). IsOk x) (sym (relocated_is kind place sum offset bytes r e t)) refl
+applies_ok kind place sum offset bytes h = subst (λ (r : Result (List ℕ) RelocFault). IsOk r) (sym (applies_gives kind place sum offset bytes h)) refl
 
 pub taken_exactly : (kind place : ℕ) (sum : ℤ) (offset : ℕ) (bytes : List ℕ) →
     Applies kind place sum offset (length bytes) ↔ IsOk (relocated kind place sum offset bytes)

@@ -1,5 +1,5 @@
 -- A relocation that is taken sets its field and nothing else.
-use Rattle.std.proofs.Common.{◌≡◌, ◌⊎◌, inl, inr, ℕ, ◌+◌, ◌*◌, ◌/◌, ◌%◌, ◌<◌, ◌≤◌, ◌++◌, ℤ, List, length, take, drop, get_or, length-take, Option, Some, None, Result, Ok, Bool, true, false, IsOk, refl, sym, ◌∙◌, ap, subst, arith}
+use Rattle.std.proofs.Common.{◌≡◌, ◌⊎◌, inl, inr, ℕ, ◌+◌, ◌*◌, ◌/◌, ◌%◌, ◌<◌, ◌≤◌, ◌++◌, ℤ, List, length, take, drop, get_or, length-take, Some, None, Result, Ok, Bool, true, false, IsOk, refl, sym, ◌∙◌, ap, subst, arith}
 use Rattle.std.specs.Prelude.{slice_index}
 use Rattle.std.proofs.lemmas.List.{get_or_append_left, get_or-append_right, get_or-drop}
 use Rattle.byteorder.specs.Endian.{little_number, little_bytes}
@@ -8,9 +8,9 @@ use Rattle.reloc_apply.specs.declared.RelocFault.{RelocFault}
 use Rattle.reloc_apply.specs.declared.Field.{Field}
 use Rattle.reloc_apply.specs.declared.Field.TheVariants as field
 use Rattle.reloc_apply.specs.declared.Row.{Row}
-use Rattle.reloc_apply.specs.Fields.{relocated, row_of, row_size, field_size, limit_of, is_jump_field, difference_of, field_value, modulo, kept_of, with_number}
+use Rattle.reloc_apply.specs.Fields.{relocated, with_field, row_of, row_size, field_size, limit_of, is_jump_field, difference_of, field_value, modulo, kept_of, with_number}
 use Rattle.reloc_apply.specs.Applies.{FieldTakes, Applies, no_field, a_field, Sets}
-use Rattle.reloc_apply.proofs.AppliesLemmas.{number_of, ok_applies, relocated_is, relocated_0, none_at_0}
+use Rattle.reloc_apply.proofs.AppliesLemmas.{number_of, ok_applies, applies_gives, none_at_0}
 use Rattle.reloc_apply.proofs.FieldLemmas.{changes_only}
 use Rattle.reloc_apply.proofs.FaultLemmas.{number_size}
 
@@ -95,14 +95,11 @@ sets_some r place sum offset bytes t =
 
 -- what a relocation that applies makes of the bytes
 pub applies_sets : (kind place : ℕ) (sum : ℤ) (offset : ℕ) (bytes : List ℕ) →
-    Applies kind place sum offset (length bytes) →
-    (new : List ℕ) × ((relocated kind place sum offset bytes ≡ Ok new) × Sets (row_of kind) place sum offset bytes new)
+    Applies kind place sum offset (length bytes) → Sets (row_of kind) place sum offset bytes (with_field kind place sum offset bytes)
+unfolding with_field
 applies_sets kind place sum offset bytes (no_field z) =
-    let none : row_of kind ≡ None = ap row_of z ∙ none_at_0 in
-    (bytes, (relocated_0 kind place sum offset bytes z, subst (λ (o : Option Row). Sets o place sum offset bytes bytes) (sym none) (sets_none place sum offset bytes)))
-applies_sets kind place sum offset bytes (a_field r e t) =
-    let new = with_number bytes offset (field_size r.field) (number_of r (difference_of r.relative place sum) bytes offset) in
-    (new, (relocated_is kind place sum offset bytes r e t, subst (λ (o : Option Row). Sets o place sum offset bytes new) (sym e) (sets_some r place sum offset bytes t)))
+    let none : row_of kind ≡ None = ap row_of z ∙ none_at_0 in rw none (sets_none place sum offset bytes)
+applies_sets kind place sum offset bytes (a_field r e t) = rw e (sets_some r place sum offset bytes t)
 
 same_ok : (a b : List ℕ) → (let r : Result (List ℕ) RelocFault = Ok a in r) ≡ Ok b → a ≡ b
 same_ok a b e = cc
@@ -110,8 +107,9 @@ same_ok a b e = cc
 pub sets_field : (kind place : ℕ) (sum : ℤ) (offset : ℕ) (old new : List ℕ) →
     relocated kind place sum offset old ≡ Ok new → Sets (row_of kind) place sum offset old new
 sets_field kind place sum offset old new e =
-    let made = applies_sets kind place sum offset old (ok_applies kind place sum offset old (subst (λ (r : Result (List ℕ) RelocFault). IsOk r) (sym e) refl)) in
-    subst (Sets (row_of kind) place sum offset old) (same_ok made.0 new (sym made.1.0 ∙ e)) made.1.1
+    let a = ok_applies kind place sum offset old (subst (λ (r : Result (List ℕ) RelocFault). IsOk r) (sym e) refl) in
+    let same = same_ok (with_field kind place sum offset old) new (sym (applies_gives kind place sum offset old a) ∙ e) in
+    subst (Sets (row_of kind) place sum offset old) same (applies_sets kind place sum offset old a)
 
 -- a field lies within the bytes
 pub width_within : (kind place : ℕ) (sum : ℤ) (offset size : ℕ) → Applies kind place sum offset size →

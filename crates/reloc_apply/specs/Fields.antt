@@ -74,11 +74,15 @@ is_odd_integer difference = unsigned_abs difference % 2 == 1
 abbrev pub is_in_bounds : Row → ℤ → Bool
 is_in_bounds r value = int_le r.low value && int_le value r.high
 
+-- the bytes with a value in their field
+abbrev pub with_value : Row → ℕ → List ℕ → ℤ → List ℕ
+with_value r offset bytes value =
+    with_number bytes offset (field_size r.field) (kept_of (is_jump_field r.field) bytes offset + modulo value (limit_of r.field))
+
 -- the value is written, if it is in its bounds
 unfoldable pub field_written : Row → ℕ → List ℕ → ℤ → Result (List ℕ) RelocFault
 field_written r offset bytes value =
-    if not (is_in_bounds r value) then Err (fault.Range value)
-    else Ok (with_number bytes offset (field_size r.field) (kept_of (is_jump_field r.field) bytes offset + modulo value (limit_of r.field)))
+    if not (is_in_bounds r value) then Err (fault.Range value) else Ok (with_value r offset bytes value)
 
 -- the field lies in the section, and a jump's difference is even
 unfoldable pub relocated_by : Row → ℤ → ℕ → List ℕ → Result (List ℕ) RelocFault
@@ -95,6 +99,11 @@ relocated_at (Some r) kind place sum offset bytes = relocated_by r (difference_o
 unfoldable pub relocated : ℕ → ℕ → ℤ → ℕ → List ℕ → Result (List ℕ) RelocFault
 relocated kind place sum offset bytes =
     if kind == 0 then Ok bytes else relocated_at (row_of kind) kind place sum offset bytes
+
+-- what the bytes become where nothing is refused; a kind without a field writes nothing
+unfoldable pub with_field : ℕ → ℕ → ℤ → ℕ → List ℕ → List ℕ
+with_field kind place sum offset bytes =
+    option_map_or (λ r. with_value r offset bytes (field_value (is_jump_field r.field) (difference_of r.relative place sum))) (row_of kind) bytes
 
 -- each byte outside of these is as it was
 pub record ChangesOnly (old new : List ℕ) (offset size : ℕ) : Type 0 where

@@ -2,7 +2,7 @@
 #![tactic(auto)]
 
 ghost use Rattle.std.specs.Prelude.{◌≡◌, ◌<◌, ◌≤◌, ◌+◌, ◌≤ℤ◌, ◌^◌, Ok, Err, pos, negsuc, length, IfErr, OnOk, OnErr, true};
-ghost use Rattle.reloc_apply.specs.Fields.{row_of, field_size, limit_of, is_jump_field, difference_of, field_value, modulo, kept_of, with_number, is_odd_integer, is_in_bounds, field_written, relocated_by, relocated, ChangesOnly, row_size};
+ghost use Rattle.reloc_apply.specs.Fields.{row_of, field_size, limit_of, is_jump_field, difference_of, field_value, modulo, kept_of, with_number, is_odd_integer, is_in_bounds, with_value, field_written, relocated_by, relocated, with_field, ChangesOnly, row_size};
 ghost use Rattle.reloc_apply.specs.internal.Leaves.{Leaves};
 
 use byteorder::{ByteOrder, LittleEndian};
@@ -184,6 +184,7 @@ fn with_number(bytes: &mut [u8], offset: usize, size: usize, number: u64)
 fn write(row: Row, offset: usize, bytes: &mut [u8], value: i64) -> Result<(), RelocFault>
     requires { offset + field_size row.field ≤ length bytes.old }
     ensures value { Leaves bytes.old bytes.new result (field_written row offset bytes.old value) }
+    ensures put { OnOk result (bytes.new ≡ with_value row offset bytes.old value) }
     ensures elsewhere { OnOk result (ChangesOnly bytes.old bytes.new offset (field_size row.field)) }
 {
     if !is_in_bounds(row, value) {
@@ -199,6 +200,8 @@ fn apply_row(row: Row, difference: i64, offset: u32, bytes: &mut [u8]) -> Result
     requires low { negsuc 9000000000 ≤ℤ difference }
     requires high { difference ≤ℤ pos 9000000000 }
     ensures value { Leaves bytes.old bytes.new result (relocated_by row difference offset bytes.old) }
+    ensures put { OnOk result (bytes.new ≡ with_value row offset bytes.old (field_value (is_jump_field row.field)
+        difference)) }
     ensures elsewhere { OnOk result (ChangesOnly bytes.old bytes.new offset (field_size row.field)) }
 {
     let offset = offset as usize;
@@ -226,7 +229,7 @@ fn apply_row(row: Row, difference: i64, offset: u32, bytes: &mut [u8]) -> Result
 ///
 /// The number is the value modulo the field, its low byte first. The kinds are those of ELF for the
 /// MSP430 (machine 105).
-#[tactic(auto, unfolding(crate::specs::Fields::relocated))]
+#[tactic(auto, using(crate::proofs::AppliesLemmas::none_at_0), unfolding(crate::specs::Fields::relocated, crate::specs::Fields::with_field))]
 pub fn apply(
     kind: u8,
     place: u16,
@@ -237,6 +240,7 @@ pub fn apply(
     requires low { negsuc 8589934591 ≤ℤ sum }
     requires high { sum ≤ℤ pos 8589934592 }
     ensures written { OnOk result (relocated kind place sum offset bytes.old ≡ Ok bytes.new) }
+    ensures put { OnOk result (bytes.new ≡ with_field kind place sum offset bytes.old) }
     ensures refused { IfErr result (λ fault. relocated kind place sum offset bytes.old ≡ Err fault) }
     ensures unchanged { OnErr result (bytes.new ≡ bytes.old) }
     ensures elsewhere { ChangesOnly bytes.old bytes.new offset (row_size (row_of kind)) }
