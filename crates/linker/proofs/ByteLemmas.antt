@@ -1,7 +1,8 @@
 -- The memory of a linked image holds bytes.
-use Rattle.std.proofs.Common.{◌⊎◌, inl, inr, ℕ, suc, ◌+◌, ◌-◌, ◌*◌, ◌/◌, ◌%◌, ◌<◌, ◌≤◌, List, [], ◌∷◌, ◌++◌, take, drop, length, Bool, true, false, cond, arith, fold}
+use Rattle.std.proofs.Common.{◌⊎◌, inl, inr, ℕ, suc, ◌+◌, ◌-◌, ◌*◌, ◌/◌, ◌%◌, ◌<◌, ◌≤◌, List, [], ◌∷◌, ◌++◌, take, drop, length, slice_get, Option, Some, None, Bool, true, false, cond, arith, fold}
 use Rattle.std.specs.Prelude.{All, slice_index}
 use Rattle.std.specs.List.{flat_map}
+use Rattle.std.specs.Option.{option_map_or}
 use Rattle.std.proofs.lemmas.Bool.{cases_lt}
 use Rattle.std.proofs.lemmas.List.{get_or_past}
 use Rattle.std.proofs.lemmas.List.Elements.{All-nil, All-cons, All-append, All-take, All-drop, All-replicate}
@@ -16,7 +17,7 @@ use Rattle.link_symbols.specs.Parts.{is_loaded_head}
 use Rattle.linker.specs.Numbers.{Linking, numbers_in}
 use Rattle.linker.specs.Bytes.{bytes_put, memory_part, word_bytes}
 use Rattle.linker.specs.Sections.{put_section, put_sections}
-use Rattle.linker.specs.Fields.{put_field, put_fields, field_place, target_address, target_size, symbol_sum}
+use Rattle.linker.specs.Fields.{put_field_to, put_field, put_fields, field_place, target_address, file_size, symbol_sum}
 use Rattle.linker.specs.Stubs.{word_named, stub_of, put_stub, put_vector}
 use Rattle.linker.specs.Image.{memory_by, blank_memory}
 use Rattle.linker.specs.Laws.{AreBytes}
@@ -67,12 +68,16 @@ all_sections address (x ∷ xs) m f h = all_sections address xs (put_sections ad
 
 field_bytes : (address : ℕ → ℕ) (numbers : List ℕ) (x : NumberedObject) (m : List ℕ) (r : Relocation) → AreBytes m → AreBytes (put_field address numbers x m r)
 unfolding put_field
-field_bytes address numbers x m r h =
-    let at = target_address address x r in
-    let old = memory_part m at (target_size x r) in
-    let b = All-take IsByte (target_size x r) (drop at m) (All-drop IsByte at m h) in
-    put_bytes m at (with_field r.kind (field_place address x r) (symbol_sum numbers r) r.offset old) h
-    (keeps_bytes r.kind (field_place address x r) (symbol_sum numbers r) r.offset old b)
+field_bytes address numbers x m r h = by (slice_get x.object.sections r.target)
+  where
+    by : (found : Option SectionHead) → AreBytes (option_map_or (put_field_to address numbers x m r) found m)
+    by None = h
+    by (Some s) =
+        let at = target_address address x r in
+        let old = memory_part m at (file_size s) in
+        let b = All-take IsByte (file_size s) (drop at m) (All-drop IsByte at m h) in
+        put_bytes m at (with_field r.kind (field_place address x r) (symbol_sum numbers r) r.offset old) h
+        (keeps_bytes r.kind (field_place address x r) (symbol_sum numbers r) r.offset old b)
 
 fields_by : (address : ℕ → ℕ) (numbers : List ℕ) (x : NumberedObject) (rs : List Relocation) (m : List ℕ) → AreBytes m → AreBytes (fold (put_field address numbers x) m rs)
 fields_by address numbers x [] m h = h

@@ -1,5 +1,5 @@
 -- Objects link exactly where the conditions hold.
-use Rattle.std.proofs.Common.{◌≡◌, ◌≢◌, ℕ, zero, suc, ◌+◌, ◌*◌, ◌%◌, ◌<◌, ◌≤◌, pos, List, [], ◌∷◌, length, get_or, Option, Some, None, Bool, true, false, not, ◌&&◌, ◌||◌, ◌==◌, nat_lt, is_none, IfSome, replicate, refl, ap, sym, ◌∙◌, subst, arith}
+use Rattle.std.proofs.Common.{◌≡◌, ◌≢◌, ℕ, zero, suc, ◌+◌, ◌*◌, ◌%◌, ◌<◌, ◌≤◌, pos, List, [], ◌∷◌, length, get_or, Option, Some, None, Bool, true, false, not, ◌&&◌, ◌||◌, ◌==◌, nat_lt, is_none, option_and_then, IfSome, replicate, refl, ap, sym, ◌∙◌, subst, arith}
 use Rattle.std.specs.Prelude.{All, slice_get, if◌then◌else◌}
 use Rattle.std.proofs.lemmas.Bool.{and_parts}
 use Rattle.std.proofs.lemmas.Bool.Decides.{nat_tests}
@@ -28,7 +28,7 @@ use Rattle.link_symbols.specs.Names.{stands_for, symbol_meaning}
 use Rattle.link_symbols.specs.Resolved.{items_of}
 use Rattle.linker.specs.Placement.{item_at, text_of, ram_of}
 use Rattle.linker.specs.Numbers.{Linking, linking_of, numbers_in, region_end}
-use Rattle.linker.specs.Fields.{field_place, target_size, symbol_sum, reloc_fault, reloc_fault_in}
+use Rattle.linker.specs.Fields.{field_place, file_size, symbol_sum, reloc_fault_to, reloc_fault, reloc_fault_in}
 use Rattle.link_symbols.specs.Refusals.{no_place, no_place_at, no_place_in, is_used, undefined, undefined_at, undefined_in, no_vector, no_vector_at, no_entry, no_entry_at, no_entry_in, is_code_of, is_module_entry, is_entry_in, elsewhere, elsewhere_at, elsewhere_in, unresolved}
 use Rattle.linker.specs.Refusals.{overfull, overfull_at, overfull_in, link_fault_of}
 use Rattle.mod_layout.proofs.FirstLemmas.{both_none}
@@ -285,18 +285,27 @@ not_overfull layout end h =
 
 -- ---- relocations
 
-not_applies : (address : ℕ → ℕ) (numbers : List ℕ) (x : NumberedObject) (r : Relocation) →
-    AppliesTo address numbers x r (target_size x r) → reloc_fault address numbers x r ≡ None
+applies_to : (address : ℕ → ℕ) (numbers : List ℕ) (x : NumberedObject) (r : Relocation) (s : SectionHead) →
+    slice_get x.object.sections r.target ≡ Some s → reloc_fault address numbers x r ≡ None → AppliesTo address numbers x r (file_size s)
 unfolding reloc_fault
-not_applies address numbers x r h =
-    ok_none x r _ (applies_ok r.kind (field_place address x r) (symbol_sum numbers r) r.offset (replicate (target_size x r) 0)
-    (subst (AppliesTo address numbers x r) (sym (length-replicate (target_size x r) 0)) h))
+applies_to address numbers x r s e h = applies address numbers x r s (sym (ap (option_and_then (reloc_fault_to address numbers x r)) e) ∙ h)
+
+not_applies : (address : ℕ → ℕ) (numbers : List ℕ) (x : NumberedObject) (r : Relocation) →
+    ((s : SectionHead) → slice_get x.object.sections r.target ≡ Some s → AppliesTo address numbers x r (file_size s)) → reloc_fault address numbers x r ≡ None
+unfolding reloc_fault
+not_applies address numbers x r h = by (slice_get x.object.sections r.target) refl
+  where
+    by : (found : Option SectionHead) → slice_get x.object.sections r.target ≡ found → option_and_then (reloc_fault_to address numbers x r) found ≡ None
+    by None e = refl
+    by (Some s) e =
+        ok_none x r _ (applies_ok r.kind (field_place address x r) (symbol_sum numbers r) r.offset (replicate (file_size s) 0)
+        (subst (AppliesTo address numbers x r) (sym (length-replicate (file_size s) 0)) (h s e)))
 
 pub relocations : (l : Linking) (objects : List ObjectValue) →
     first_in (reloc_fault_in l) (numbered_objects objects) ≡ None → RelocationsApply l objects
-relocations l objects e = λ n x h j r m.
+relocations l objects e = λ n x h j r m s found.
     let o = get_or (numbered_objects objects) n x in
-    applies l.address (numbers_in l o) o (get_or o.object.relocations j r) (in_none (reloc_fault l.address (numbers_in l o) o) o.object.relocations (in_none (reloc_fault_in l) (numbered_objects objects) e n x h) j r m)
+    applies_to l.address (numbers_in l o) o (get_or o.object.relocations j r) s found (in_none (reloc_fault l.address (numbers_in l o) o) o.object.relocations (in_none (reloc_fault_in l) (numbered_objects objects) e n x h) j r m)
 
 not_relocations : (l : Linking) (objects : List ObjectValue) → RelocationsApply l objects →
     first_in (reloc_fault_in l) (numbered_objects objects) ≡ None

@@ -29,13 +29,13 @@ use Rattle.linker.specs.Placement.{item_at, starts_of, address_at, module_stub_s
 use Rattle.linker.specs.Numbers.{Linking, linking_of, numbers_in, region_end}
 use Rattle.linker.specs.Bytes.{memory_part, word_bytes}
 use Rattle.linker.specs.Sections.{put_sections}
-use Rattle.linker.specs.Fields.{put_fields, target_size, target_address, symbol_sum}
+use Rattle.linker.specs.Fields.{put_fields, target_address, symbol_sum}
 use Rattle.linker.specs.Stubs.{word_named, stub_of, put_stub, put_vector}
 use Rattle.linker.specs.Image.{Links, blank_memory, memory_by}
 use Rattle.linker.specs.Refusals.{link_fault_of}
 use Rattle.linker.proofs.BoundLemmas.{all_low}
 use Rattle.linker.proofs.ClearLemmas.{zero_at, stub_size_is}
-use Rattle.linker.proofs.FitLemmas.{item_size, some_head, size_is}
+use Rattle.linker.proofs.FitLemmas.{item_size, some_head}
 use Rattle.linker.proofs.LinkedLemmas.{memory_is, none_over}
 use Rattle.linker.proofs.PlaceLemmas.{in_region, part_by}
 use Rattle.linker.proofs.RegionLemmas.{items_are_in, ends_kept}
@@ -186,31 +186,31 @@ module _ (layout : LayoutValue) (objects : List ObjectValue) (kept : IsLayout la
 
   target_loaded : (n j : ℕ) (x : NumberedObject) (d : Relocation) → slice_get xs n ≡ Some x →
       j < length x.object.relocations →
-      (s : SectionHead) × (IsLoaded objects x (get_or x.object.relocations j d).target s × (target_size x (get_or x.object.relocations j d) ≡ size s))
+      (s : SectionHead) × IsLoaded objects x (get_or x.object.relocations j d).target s
   target_loaded n j x d f b =
       let r = get_or x.object.relocations j d in
       let is = one_of IsObject objects n x are f in
       let t = (all_relocations x.object is j d b).target in
       let h = some_head x.object.sections r.target t in (
         get_or x.object.sections r.target h,
-        (record { number = n; object = f; section = gets x.object.sections r.target h t; loaded = all_loaded x.object is j d b h t }, size_is x.object.sections r.target h t),
+        record { number = n; object = f; section = gets x.object.sections r.target h t; loaded = all_loaded x.object is j d b h t },
       )
 
   good : All (fields.AreGood l low) xs
   good n d h j r b =
       let x = get_or xs n d in
       let t = target_loaded n j x r (gets xs n d h) b in
-      let s = spot_of x (get_or x.object.relocations j r).target t.0 t.1.0 in
+      let s = spot_of x (get_or x.object.relocations j r).target t.0 t.1 in
       let room = s.room in
       let below = item_below (x.first + (get_or x.object.relocations j r).target) s.region s.goes in
-      let q = t.1.1 in
-      record { fits = omega (arith, room, below, q); applies = (can_link layout objects e).relocations_apply n d h j r b }
+      let found = t.1.section in
+      record { section = t.0; found = found; fits = omega (arith, room, below); applies = (can_link layout objects e).relocations_apply n d h j r b t.0 found }
 
   -- outside a section is outside its fields
-  clear_by : (x : NumberedObject) (r : Relocation) (a place : ℕ) (sum : ℤ) →
-      Applies r.kind place sum r.offset (target_size x r) → Out (target_address address x r) (target_size x r) a →
+  clear_by : (x : NumberedObject) (r : Relocation) (a place : ℕ) (sum : ℤ) (room : ℕ) →
+      Applies r.kind place sum r.offset room → Out (target_address address x r) room a →
       fields.Clear l low x r a
-  clear_by x r a place sum (no_field z) out = by (cases_lt a (target_address address x r + r.offset))
+  clear_by x r a place sum room (no_field z) out = by (cases_lt a (target_address address x r + r.offset))
     where
       none : row_size (row_of r.kind) ≡ 0
       none = ap (λ (k : ℕ). row_size (row_of k)) z ∙ ap row_size none_at_0
@@ -219,10 +219,10 @@ module _ (layout : LayoutValue) (objects : List ObjectValue) (kept : IsLayout la
           fields.Clear l low x r a
       by (inl h) = inl h
       by (inr h) = inr (omega (arith, none))
-  clear_by x r a place sum (a_field row f t) out =
+  clear_by x r a place sum room (a_field row f t) out =
       let w = t.within in
       let z = ap row_size f in
-      out_within (target_address address x r) (target_size x r) (target_address address x r + r.offset) (row_size (row_of r.kind)) a (omega arith) (omega (arith, w, z)) out
+      out_within (target_address address x r) room (target_address address x r + r.offset) (row_size (row_of r.kind)) a (omega arith) (omega (arith, w, z)) out
 
   clear_of : (n : ℕ) (d : NumberedObject) (a : ℕ) → n < length xs →
       ((j : ℕ) (s : SectionHead) → IsLoaded objects (get_or xs n d) j s → Out (address ((get_or xs n d).first + j)) (size s) a) →
@@ -231,8 +231,8 @@ module _ (layout : LayoutValue) (objects : List ObjectValue) (kept : IsLayout la
       let x = get_or xs n d in
       let t = target_loaded n j x r (gets xs n d h) b in
       let q = get_or x.object.relocations j r in
-      clear_by x q a _ _ ((can_link layout objects e).relocations_apply n d h j r b)
-      (subst (λ (z : ℕ). Out (address (x.first + q.target)) z a) (sym t.1.1) (out q.target t.0 t.1.0))
+      let found = t.1.section in
+      clear_by x q a _ _ (size t.0) ((can_link layout objects e).relocations_apply n d h j r b t.0 found) (out q.target t.0 t.1)
 
   -- ---- the layers of the memory
 
@@ -362,14 +362,14 @@ module _ (layout : LayoutValue) (objects : List ObjectValue) (kept : IsLayout la
       c : (j < length x.object.relocations) × ((d : Relocation) → get_or x.object.relocations j d ≡ r)
       c = got x.object.relocations j r g
 
-      target : (s : SectionHead) × (IsLoaded objects x r.target s × (target_size x r ≡ size s))
-      target = subst (λ (q : Relocation). (s : SectionHead) × (IsLoaded objects x q.target s × (target_size x q ≡ size s))) (c.1 r) (target_loaded n j x r f c.0)
+      target : (s : SectionHead) × IsLoaded objects x r.target s
+      target = subst (λ (q : Relocation). (s : SectionHead) × IsLoaded objects x q.target s) (c.1 r) (target_loaded n j x r f c.0)
 
       s : SectionHead
       s = target.0
 
       loaded : IsLoaded objects x r.target s
-      loaded = target.1.0
+      loaded = target.1
 
       section : (r.target < length x.object.sections) × ((d : SectionHead) → get_or x.object.sections r.target d ≡ s)
       section = got x.object.sections r.target s loaded.section
@@ -395,8 +395,8 @@ module _ (layout : LayoutValue) (objects : List ObjectValue) (kept : IsLayout la
 
       held : (k : ℕ) → k < row_size (row_of r.kind) → holds (item_span item) (place k) ≡ true
       held k b =
-          let w = within (row_size (row_of r.kind)) r.offset (target_size x r) k (width_within r.kind (fields.place l low x r) (fields.sum l low x r) r.offset (target_size x r) applies.applies) b in
-          let q = target.1.1 in
+          let w = within (row_size (row_of r.kind)) r.offset (size applies.section) k (width_within r.kind (fields.place l low x r) (fields.sum l low x r) r.offset (size applies.section) applies.applies) b in
+          let q : size applies.section ≡ size s = ap size (sym ((got x.object.sections r.target applies.section applies.found).1 s) ∙ section.1 s) in
           let z : address (x.first + r.target) + r.offset + k ≡ address (x.first + r.target) + (r.offset + k) = omega arith in
           ap (holds (item_span item)) z ∙ among_item x r.target s (r.offset + k) loaded (omega (arith, w, q))
 

@@ -1,15 +1,17 @@
 -- Fields put into a memory: the number of one that no later one overlaps, and the bytes outside all.
-use Rattle.std.proofs.Common.{◌≡◌, ◌⊎◌, inl, inr, ℕ, zero, suc, ◌+◌, ◌%◌, ◌<◌, ◌≤◌, ℤ, List, [], ◌∷◌, drop, length, get_or, refl, ap, sym, ◌∙◌, subst, arith, fold}
-use Rattle.std.specs.Prelude.{All, slice_index}
+use Rattle.std.proofs.Common.{◌≡◌, ◌⊎◌, inl, inr, ℕ, zero, suc, ◌+◌, ◌%◌, ◌<◌, ◌≤◌, ℤ, List, [], ◌∷◌, drop, length, get_or, Option, Some, None, refl, ap, sym, ◌∙◌, subst, arith, fold}
+use Rattle.std.specs.Prelude.{All, slice_get, slice_index}
+use Rattle.std.specs.Option.{option_map_or}
 use Rattle.std.proofs.lemmas.List.{get_or-drop}
 use Rattle.byteorder.specs.Endian.{little_number, little_from}
+use Rattle.elf_objects.specs.declared.object.SectionHead.{SectionHead}
 use Rattle.elf_objects.specs.declared.object.Relocation.{Relocation}
 use Rattle.reloc_apply.specs.Fields.{row_of, row_size, with_field, ChangesOnly}
 use Rattle.reloc_apply.specs.Applies.{Applies, limit_by, row_number, Sets}
 use Rattle.reloc_apply.proofs.SetsLemmas.{applies_sets, width_within}
 use Rattle.link_symbols.specs.Passes.{NumberedObject}
 use Rattle.linker.specs.Bytes.{bytes_put, memory_part}
-use Rattle.linker.specs.Fields.{put_field, put_fields, field_place, target_address, target_size, symbol_sum}
+use Rattle.linker.specs.Fields.{put_field_to, put_field, put_fields, field_place, target_address, file_size, symbol_sum}
 use Rattle.linker.specs.Numbers.{Linking, numbers_in}
 use Rattle.linker_laws.proofs.Writes.{Out, out_less, out_or, put_long, put_out, put_in, read_at, size_at}
 use Rattle.linker_laws.proofs.SectionBytes.{Long}
@@ -45,32 +47,44 @@ module _ (l : Linking) (low : (k : ℕ) → l.address k ≤ 65536) where
 
   -- a relocation's section lies in the memory, and the relocation applies to it
   pub record IsGood (x : NumberedObject) (r : Relocation) : Type 0 where
-    pub fits : at x r + target_size x r ≤ 65536
-    pub applies : Applies r.kind (place x r) (sum x r) r.offset (target_size x r)
+    pub section : SectionHead
+    pub found : slice_get x.object.sections r.target ≡ Some section
+    pub fits : at x r + file_size section ≤ 65536
+    pub applies : Applies r.kind (place x r) (sum x r) r.offset (file_size section)
 
-  abbrev old : NumberedObject → Relocation → List ℕ → List ℕ
-  old x r m = memory_part m (at x r) (target_size x r)
+  abbrev old : NumberedObject → Relocation → SectionHead → List ℕ → List ℕ
+  old x r s m = memory_part m (at x r) (file_size s)
 
-  abbrev made : NumberedObject → Relocation → List ℕ → List ℕ
-  made x r m = with_field r.kind (place x r) (sum x r) r.offset (old x r m)
+  abbrev made : NumberedObject → Relocation → SectionHead → List ℕ → List ℕ
+  made x r s m = with_field r.kind (place x r) (sum x r) r.offset (old x r s m)
 
   abbrev pub with_one : NumberedObject → List ℕ → Relocation → List ℕ
   with_one x m r = put_field l.address (numbers_in l x) x m r
 
   field_long : (x : NumberedObject) (m : List ℕ) (r : Relocation) → Long m → Long (with_one x m r)
   unfolding put_field
-  field_long x m r h =
-      let w = low (x.first + r.target) in
-      let p = put_long m (at x r) (made x r m) (omega arith) in omega (arith, p)
+  field_long x m r h = by (slice_get x.object.sections r.target)
+    where
+      by : (found : Option SectionHead) → Long (option_map_or (put_field_to l.address (numbers_in l x) x m r) found m)
+      by None = h
+      by (Some s) =
+          let w = low (x.first + r.target) in
+          let p = put_long m (at x r) (made x r s m) (omega arith) in
+          let q : Long (bytes_put m (at x r) (made x r s m)) = omega (arith, p) in q
 
-  old_size : (x : NumberedObject) (m : List ℕ) (r : Relocation) → Long m → IsGood x r →
-      length (old x r m) ≡ target_size x r
-  old_size x m r h good = let f = good.fits in size_at m (at x r) (target_size x r) (omega (arith, f))
+  old_size : (x : NumberedObject) (m : List ℕ) (r : Relocation) → Long m → (good : IsGood x r) →
+      length (old x r good.section m) ≡ file_size good.section
+  old_size x m r h good = let f = good.fits in size_at m (at x r) (file_size good.section) (omega (arith, f))
+
+  put_is : (x : NumberedObject) (m : List ℕ) (r : Relocation) (good : IsGood x r) →
+      with_one x m r ≡ bytes_put m (at x r) (made x r good.section m)
+  unfolding put_field
+  put_is x m r good = ap (λ (o : Option SectionHead). option_map_or (put_field_to l.address (numbers_in l x) x m r) o m) good.found
 
   -- what a field makes of the section's bytes
-  sets : (x : NumberedObject) (m : List ℕ) (r : Relocation) → Long m → IsGood x r →
-      Sets (row_of r.kind) (place x r) (sum x r) r.offset (old x r m) (made x r m)
-  sets x m r h good = applies_sets r.kind (place x r) (sum x r) r.offset (old x r m) (subst (Applies r.kind (place x r) (sum x r) r.offset) (sym (old_size x m r h good)) good.applies)
+  sets : (x : NumberedObject) (m : List ℕ) (r : Relocation) → Long m → (good : IsGood x r) →
+      Sets (row_of r.kind) (place x r) (sum x r) r.offset (old x r good.section m) (made x r good.section m)
+  sets x m r h good = applies_sets r.kind (place x r) (sum x r) r.offset (old x r good.section m) (subst (Applies r.kind (place x r) (sum x r) r.offset) (sym (old_size x m r h good)) good.applies)
 
   -- bytes in place of a section's that are the same at an address
   same_there : (m : List ℕ) (start size a : ℕ) (new : List ℕ) → Long m → start + size ≤ 65536 → length new ≡ size →
@@ -99,10 +113,11 @@ module _ (l : Linking) (low : (k : ℕ) → l.address k ≤ 65536) where
 
   field_keep : (x : NumberedObject) (m : List ℕ) (r : Relocation) (a : ℕ) → Long m → IsGood x r → Clear x r a →
       slice_index (with_one x m r) a ≡ slice_index m a
-  unfolding put_field
   field_keep x m r a h good out =
       let k = sets x m r h good in
-      same_there m (at x r) (target_size x r) a (made x r m) h good.fits (k.as_many ∙ old_size x m r h good) (λ n g q. kept_at (old x r m) (made x r m) (at x r) r.offset (width r) n a k.elsewhere out q)
+      let new = made x r good.section m in
+      ap (λ (q : List ℕ). slice_index q a) (put_is x m r good)
+      ∙ same_there m (at x r) (file_size good.section) a new h good.fits (k.as_many ∙ old_size x m r h good) (λ n g q. kept_at (old x r good.section m) new (at x r) r.offset (width r) n a k.elsewhere out q)
 
   -- the field holds its number
   abbrev pub IsSet : NumberedObject → Relocation → List ℕ → Type 0
@@ -113,19 +128,19 @@ module _ (l : Linking) (low : (k : ℕ) → l.address k ≤ 65536) where
   within_by w offset size n (inr b) h = omega (arith, b, h)
 
   field_set : (x : NumberedObject) (m : List ℕ) (r : Relocation) → Long m → IsGood x r → IsSet x r (with_one x m r)
-  unfolding put_field
   field_set x m r h good =
       let k = sets x m r h good in
-      let new = made x r m in
+      let new = made x r good.section m in
       let size = k.as_many ∙ old_size x m r h good in
       let f = low (x.first + r.target) in
       let each : (n : ℕ) → n < width r → slice_index (drop (at x r + r.offset) (bytes_put m (at x r) new)) n ≡ slice_index (drop r.offset new) n = λ n g.
-      let b = within_by (width r) r.offset (target_size x r) n (width_within r.kind (place x r) (sum x r) r.offset (target_size x r) good.applies) g in
+      let b = within_by (width r) r.offset (file_size good.section) n (width_within r.kind (place x r) (sum x r) r.offset (file_size good.section) good.applies) g in
       get_or-drop (at x r + r.offset) (bytes_put m (at x r) new) n 0
       ∙ (ap (slice_index (bytes_put m (at x r) new)) (let z : at x r + r.offset + n ≡ at x r + (r.offset + n) = omega arith in z)
       ∙ (put_in m (at x r) new (r.offset + n) (omega arith) (omega (arith, b, size)) ∙ sym (get_or-drop r.offset new n 0))) in
-      ap (λ (n : ℕ). n % limit_by (row_of r.kind)) (same_number (width r) (drop (at x r + r.offset) (bytes_put m (at x r) new)) (drop r.offset new) each)
-      ∙ k.number
+      ap (λ (q : List ℕ). little_number (width r) (drop (at x r + r.offset) q) % limit_by (row_of r.kind)) (put_is x m r good)
+      ∙ (ap (λ (n : ℕ). n % limit_by (row_of r.kind)) (same_number (width r) (drop (at x r + r.offset) (bytes_put m (at x r) new)) (drop r.offset new) each)
+      ∙ k.number)
 
   -- a memory that is the same at the field
   pub still_set : (x : NumberedObject) (r : Relocation) (m new : List ℕ) →

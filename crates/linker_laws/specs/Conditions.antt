@@ -2,6 +2,7 @@
 use Rattle.std.specs.Prelude.{◌≡◌, ◌≢◌, ◌≤◌, ◌<◌, ◌↔◌, ◌%◌, ℕ, List, [], length, true, Option, Some, None, IfSome, All, AllPairs, slice_get, slice_index_or}
 use Rattle.elf_objects.specs.Object.{ObjectValue}
 use Rattle.elf_objects.specs.declared.object.Binding.TheVariants as binding
+use Rattle.elf_objects.specs.declared.object.SectionHead.{SectionHead}
 use Rattle.layout_file.specs.Values.{VectorValue, ModuleValue, LayoutValue}
 use Rattle.reloc_apply.specs.Applies.{Applies}
 use Rattle.link_symbols.specs.declared.item.Item.{Item}
@@ -15,7 +16,7 @@ use Rattle.link_symbols.specs.Names.{stands_for, symbol_meaning}
 use Rattle.link_symbols.specs.Resolved.{items_of}
 use Rattle.linker.specs.Placement.{item_at, text_of, ram_of}
 use Rattle.linker.specs.Numbers.{Linking, linking_of, numbers_in, region_end}
-use Rattle.linker.specs.Fields.{field_place, target_size, symbol_sum}
+use Rattle.linker.specs.Fields.{field_place, file_size, symbol_sum}
 use Rattle.linker.specs.Refusals.{link_fault_of}
 
 -- each loaded section goes to a part of a region
@@ -67,10 +68,10 @@ pub record ContentsFit (layout : LayoutValue) (end : ℕ → ℕ) : Type 0 where
   pub module_ram : (i : ℕ) (d : ModuleValue) → i < length layout.modules →
       (ram_of end i (slice_index_or layout.modules i d)).end ≤ (slice_index_or layout.modules i d).ram.end
 
--- each relocation applies to its section's bytes, at its address
+-- each relocation applies to the bytes of its section, at its address
 abbrev pub RelocationsApply : Linking → List ObjectValue → Type 0
-RelocationsApply l objects = All (λ x. All (λ r.
-    Applies r.kind (field_place l.address x r) (symbol_sum (numbers_in l x) r) r.offset (target_size x r))
+RelocationsApply l objects = All (λ x. All (λ r. (s : SectionHead) → slice_get x.object.sections r.target ≡ Some s →
+    Applies r.kind (field_place l.address x r) (symbol_sum (numbers_in l x) r) r.offset (file_size s))
     x.object.relocations) (numbered_objects objects)
 
 pub record CanLink (layout : LayoutValue) (objects : List ObjectValue) : Type 0 where

@@ -1,5 +1,5 @@
 -- What has room where it stands.
-use Rattle.std.specs.Prelude.{ℕ, ◌≡◌, ◌+◌, List, [], ◌∷◌, length, true, Some, ◌≤◌, All, ◌*◌, ◌%◌, ◌<◌, ◌-◌, slice_index_or}
+use Rattle.std.specs.Prelude.{ℕ, ◌≡◌, ◌+◌, List, [], ◌∷◌, length, true, Some, ◌≤◌, All, ◌*◌, ◌%◌, ◌<◌, ◌-◌, slice_get, slice_index_or}
 use Rattle.mod_layout.specs.declared.TheConstants.{DEVICES_END, FIRST_VECTOR}
 use Rattle.entry_stubs.specs.Stub.{most_entries}
 use Rattle.elf_objects.specs.Object.{ObjectValue, IsObject}
@@ -11,7 +11,7 @@ use Rattle.link_symbols.specs.declared.item.Item.{Item}
 use Rattle.link_symbols.specs.Passes.{NumberedObject}
 use Rattle.link_symbols.specs.Parts.{is_loaded_head}
 use Rattle.linker.specs.Placement.{module_stub_size, item_at}
-use Rattle.linker.specs.Fields.{target_size, target_address}
+use Rattle.linker.specs.Fields.{file_size, target_address}
 
 -- a place of so many bytes above the devices and below the vectors
 pub record Room (at size : ℕ) : Type 0 where
@@ -28,8 +28,8 @@ SectionsFit address x = (k : ℕ) (d : SectionHead) → k < length x.object.sect
     Room (address (x.first + k)) ((slice_index_or x.object.sections k d).bytes.end - (slice_index_or x.object.sections k d).bytes.start)
 
 -- and so have the targets of its relocations
-abbrev pub FieldFits : (ℕ → ℕ) → NumberedObject → Relocation → Type 0
-FieldFits address x r = Room (target_address address x r) (target_size x r)
+pub record FieldFits (address : ℕ → ℕ) (x : NumberedObject) (r : Relocation) : Type 0 where
+  pub target : (s : SectionHead) → slice_get x.object.sections r.target ≡ Some s → Room (target_address address x r) (file_size s)
 
 pub record ObjectFits (address : ℕ → ℕ) (x : NumberedObject) : Type 0 where
   pub sections : SectionsFit address x
