@@ -1,10 +1,9 @@
 -- The numbers of all objects' symbols from what the symbols stand for.
-use Rattle.std.proofs.Common.{◌≡◌, ◌<◌, ◌≤◌, ◌+◌, ℕ, suc, List, [], ◌∷◌, ◌++◌, map, take, length, get_or, Vec, Option, refl, ap, sym, ◌∙◌, arith}
+use Rattle.std.proofs.Common.{◌≡◌, ◌<◌, ◌≤◌, ◌+◌, ℕ, suc, List, [], ◌∷◌, ◌++◌, map, take, length, get_or, Vec, refl, ap, sym, ◌∙◌, arith}
 use Rattle.std.specs.Prelude.{Result, Ok, Err, IfOk, OnOk, None}
 use Rattle.std.proofs.lemmas.List.{map-append, length-map, take_more, take_all}
 use Rattle.std.specs.declared.alloc.Global.{Global}
 use Rattle.elf_objects.specs.Object.{ObjectValue}
-use Rattle.link_symbols.specs.declared.symbol.Meaning.{Meaning}
 use Rattle.link_symbols.specs.Names.{stands_for}
 use Rattle.link_symbols.specs.Passes.{NumberedObject, numbered_objects, numbered_objects_from}
 use Rattle.link_symbols.specs.Resolved.{meanings_in, meanings_of}

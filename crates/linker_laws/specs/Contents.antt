@@ -1,5 +1,5 @@
 -- What each byte of a linked image is: a section's, a field's, a stub's, a vector's, or 0.
-use Rattle.std.specs.Prelude.{◌≡◌, ◌<◌, ◌+◌, ◌-◌, ◌*◌, ◌%◌, ℕ, List, drop, true, false, Some, None, All, slice_get, slice_index, flat_map}
+use Rattle.std.specs.Prelude.{◌≡◌, ◌<◌, ◌+◌, ◌-◌, ◌*◌, ◌%◌, ℕ, List, drop, true, false, Some, All, slice_get, slice_index, flat_map}
 use Rattle.byteorder.specs.Endian.{little_number}
 use Rattle.mod_layout.specs.declared.Section.{Section}
 use Rattle.mod_layout.specs.declared.TheConstants.{FIRST_VECTOR}

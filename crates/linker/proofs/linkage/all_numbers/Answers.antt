@@ -1,4 +1,4 @@
-use Rattle.std.proofs.Common.{◌≡◌, ◌∙◌, ap, length, map, arith}
+use Rattle.std.proofs.Common.{◌∙◌, ap, length, map, arith}
 use Rattle.std.specs.Prelude.{slice_index}
 use Rattle.linker.specs.Numbers.{number_or_zero}
 use Rattle.linker.proofs.LinkageLemmas.{numbers_more, numbers_all}

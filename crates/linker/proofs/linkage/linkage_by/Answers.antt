@@ -2,7 +2,6 @@ use Rattle.std.proofs.Common.{◌≡◌, ◌+◌, ◌*◌, ℕ, ap, sym, ◌∙�
 use Rattle.std.specs.declared.alloc.Global.{Global}
 use Rattle.std.proofs.lemmas.List.{length-map}
 use Rattle.std.specs.Prelude.{slice_index}
-use Rattle.image_text.specs.Image.{Image}
 use Rattle.layout_file.specs.Layout.{layout_of}
 use Rattle.layout_file.specs.Views.{module_value}
 use Rattle.link_symbols.specs.declared.fault.LinkFault.{LinkFault}

@@ -1,8 +1,7 @@
-use Rattle.std.proofs.Common.{◌≡◌, ◌∙◌, List, ℕ, ap, sym, subst, length, map, arith}
+use Rattle.std.proofs.Common.{◌∙◌, List, ℕ, ap, length, map, arith}
 use Rattle.elf_objects.specs.Object.{ObjectValue}
-use Rattle.link_symbols.specs.CommonNames.{borrowed, common_names}
+use Rattle.link_symbols.specs.CommonNames.{common_names}
 use Rattle.link_symbols.specs.Passes.{numbered_objects}
-use Rattle.linker.specs.Linkage.{listed_numbers}
 use Rattle.linker.specs.Numbers.{numbers_in}
 use Rattle.linker.specs.internal.Resolved.{linking_by}
 use Rattle.linker.proofs.linkage.tell_linkage.Goals as goal
