@@ -26,7 +26,7 @@ use Rattle.asm_text.specs.Parts.{SymbolValue, UnitValue, IsUnit, IsSymbolValue, 
 use Rattle.elf_objects.specs.Numbers.{symbol_size}
 use Rattle.obj_write.specs.Bytes.{half_bytes, long_bytes}
 use Rattle.obj_write.specs.Strings.{terminated, string_table, name_at}
-use Rattle.obj_write.specs.Sections.{FileSection, no_section, content_at}
+use Rattle.obj_write.specs.Sections.{FileSection, content_at}
 use Rattle.obj_write.specs.Symbols.{no_symbol, info_of, home_index, symbol_entry, symbol_entry_at, symbol_names}
 use Rattle.obj_write.specs.Symbols as own
 use Rattle.obj_write.specs.Relocations.{relocation_entry, relocation_table, relocations_in}
@@ -34,6 +34,7 @@ use Rattle.obj_write.specs.Object.{no_part, section_type, symbols_head, strings_
 use Rattle.obj_write.specs.Reader.{no_relocation}
 use Rattle.obj_write.proofs.ReadLemmas.{Stands, stands_left, stands_right, stands_below, stands_each, length_below, word_read, word_low, half_read, byte_read, header}
 use Rattle.obj_write.proofs.FileLemmas.{nothing_below, no_head}
+use Rattle.obj_write.proofs.TableLemmas.{no_section}
 use Rattle.obj_write.proofs.SizeLemmas.{length_sections, symtab_at, strtab_at, relocations_at, length_relocations, length_symbols, length_symbol_at, entries_length}
 use Rattle.obj_write.proofs.NameLemmas.{name_ends, content_read, symbol_strings}
 use Rattle.obj_write.proofs.UnitLemmas.{symtab_parts, strtab_parts, target_of, relocation_parts, symbol_names_few}

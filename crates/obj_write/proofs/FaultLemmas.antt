@@ -13,11 +13,12 @@ use Rattle.asm_text.specs.declared.unit.SectionKind.{SectionKind}
 use Rattle.asm_text.specs.declared.unit.SectionKind.TheVariants.{Code, Data, Bss}
 use Rattle.asm_text.specs.Parts.{SectionValue, UnitValue, IsUnit, IsSectionValue, kept_size}
 use Rattle.obj_write.specs.Strings.{string_table, name_at}
-use Rattle.obj_write.specs.Sections.{FileSection, no_section, content_at}
+use Rattle.obj_write.specs.Sections.{FileSection, content_at}
 use Rattle.obj_write.specs.Object.{no_part, section_type, section_flags, strings_head, relocated_in, object_section_names, file_sections, shstrtab_index, object_of}
 use Rattle.obj_write.proofs.ReadLemmas.{Stands, header}
 use Rattle.obj_write.proofs.FileLemmas.{nothing_below, no_head}
 use Rattle.obj_write.proofs.ObjectLemmas.{length_names}
+use Rattle.obj_write.proofs.TableLemmas.{no_section}
 use Rattle.obj_write.proofs.SizeLemmas.{length_sections, part_at, symtab_at, strtab_at, shstrtab_at, relocations_at, at_all}
 use Rattle.obj_write.proofs.NameLemmas.{name_ends, no_name_ends, content_read, section_strings}
 use Rattle.obj_write.proofs.UnitLemmas.{part_content, symtab_parts, strtab_parts, shstrtab_parts, relocation_parts}

@@ -9,9 +9,10 @@ use Rattle.elf_objects.specs.Section.{header_of}
 use Rattle.obj_write.specs.declared.sections.Head.{Head}
 use Rattle.elf_objects.specs.Numbers.{file_header_size, section_header_size}
 use Rattle.obj_write.specs.Bytes.{half_bytes, long_bytes}
-use Rattle.obj_write.specs.Sections.{FileSection, padded_contents, head_of, head_bytes, header_table}
+use Rattle.obj_write.specs.Sections.{FileSection, padded_contents, head_bytes, header_table}
 use Rattle.obj_write.specs.Object.{identification, file_header, file_bytes}
 use Rattle.obj_write.proofs.ReadLemmas.{Stands, stands_left, stands_right, stands_within, word_read, half_read, byte_read, IsSmall, header, header_read, stands_below, length_below}
+use Rattle.obj_write.proofs.TableLemmas.{head_at, table_below}
 
 -- ---- tests
 
@@ -39,7 +40,7 @@ table_place sections = file_header_size + length (padded_contents sections)
 -- what is read of a file of sections
 pub record IsLaid (sections : List FileSection) (names : ℕ) (file : List ℕ) : Type 0 where
   pub contents : Stands file file_header_size (padded_contents sections)
-  pub headers : Stands file (table_place sections) (header_table sections)
+  pub headers : Stands file (table_place sections) (replicate section_header_size 0 ++ all_below (λ k. head_bytes (head_at sections k)) (length sections))
   pub table : table_offset file ≡ table_place sections
   pub count : section_count file ≡ length sections + 1
   pub strings : name_table file ≡ names
@@ -54,12 +55,12 @@ unfolding head_bytes
 length_head_bytes h = refl
 
 pub length_headers : (sections : List FileSection) → length (header_table sections) ≡ 40 + 40 * length sections
-unfolding header_table
 length_headers sections =
-    let f : ℕ → List ℕ = λ k. head_bytes (head_of sections k) in
+    let f : ℕ → List ℕ = λ k. head_bytes (head_at sections k) in
+    let e = ap length (table_below sections) in
     let a = length-append (replicate section_header_size 0) (all_below f (length sections)) in
-    let b = length_below f 40 (length sections) (λ k lt. length_head_bytes (head_of sections k)) in
-    omega (arith, a, b)
+    let b = length_below f 40 (length sections) (λ k lt. length_head_bytes (head_at sections k)) in
+    omega (arith, e, a, b)
 
 -- the fields of the header that are read
 record IsHeaded (file : List ℕ) (table count names : ℕ) : Type 0 where
@@ -141,7 +142,7 @@ laid sections names small few low =
     let ends : table_offset file + 40 * section_count file ≤ length file = let a = h.table_at in let b = ap (λ k. 40 * k) h.counted in omega (arith, within, n, a, b) in
     record {
       contents = stands_left file 52 (padded_contents sections) (header_table sections) r;
-      headers = t;
+      headers = subst (Stands file (table_place sections)) (table_below sections) t;
       table = h.table_at;
       count = h.counted;
       strings = h.strings_at;
@@ -156,23 +157,22 @@ no_head = record { name = 0; kind = 0; flags = 0; offset = 0; size = 0; link = 0
 
 -- section 0
 pub first_header : (sections : List FileSection) (names : ℕ) (file : List ℕ) → IsLaid sections names file → header_of file 0 ≡ header no_head
-unfolding header_table head_bytes
+unfolding head_bytes
 first_header sections names file laid =
     let at : table_place sections ≡ table_offset file + 40 * 0 = let e = laid.table in omega (arith, e) in
-    let f : ℕ → List ℕ = λ k. head_bytes (head_of sections k) in
+    let f : ℕ → List ℕ = λ k. head_bytes (head_at sections k) in
     let small : IsSmall no_head = record { name = omega arith; kind = omega arith; flags = omega arith; offset = omega arith; size = omega arith; link = omega arith; info = omega arith; align = omega arith; entry_size = omega arith } in
     header_read file 0 no_head small
     (subst (λ (n : ℕ). Stands file n (head_bytes no_head)) at (stands_left file (table_place sections) (head_bytes no_head) (all_below f (length sections)) laid.headers))
 
 -- the sections after it
-pub next_header : (sections : List FileSection) (names : ℕ) (file : List ℕ) (k : ℕ) → IsLaid sections names file → k < length sections → IsSmall (head_of sections k)
-    → header_of file (suc k) ≡ header (head_of sections k)
-unfolding header_table
+pub next_header : (sections : List FileSection) (names : ℕ) (file : List ℕ) (k : ℕ) → IsLaid sections names file → k < length sections → IsSmall (head_at sections k)
+    → header_of file (suc k) ≡ header (head_at sections k)
 next_header sections names file k laid lt small =
-    let f : ℕ → List ℕ = λ j. head_bytes (head_of sections j) in
+    let f : ℕ → List ℕ = λ j. head_bytes (head_at sections j) in
     let r = stands_right file (table_place sections) (table_place sections + 40) (replicate section_header_size 0) (all_below f (length sections)) refl laid.headers in
-    let n = length_below f 40 k (λ j l. length_head_bytes (head_of sections j)) in
+    let n = length_below f 40 k (λ j l. length_head_bytes (head_at sections j)) in
     let e = laid.table in
     let at : table_place sections + 40 + length (all_below f k) ≡ table_offset file + 40 * suc k = omega (arith, n, e) in
-    header_read file (suc k) (head_of sections k) small
-    (subst (λ (m : ℕ). Stands file m (head_bytes (head_of sections k))) at (stands_below file (table_place sections + 40) f (length sections) k lt r))
+    header_read file (suc k) (head_at sections k) small
+    (subst (λ (m : ℕ). Stands file m (head_bytes (head_at sections k))) at (stands_below file (table_place sections + 40) f (length sections) k lt r))

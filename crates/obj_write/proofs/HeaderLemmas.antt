@@ -11,11 +11,12 @@ use Rattle.asm_text.specs.Parts.{SymbolValue, UnitValue, IsUnit, IsSectionValue}
 use Rattle.obj_write.specs.declared.sections.Head.{Head}
 use Rattle.obj_write.specs.Bytes.{gap, padded_bytes}
 use Rattle.obj_write.specs.Strings.{string_table, name_at}
-use Rattle.obj_write.specs.Sections.{FileSection, no_section, padded_contents, content_at, head_of}
+use Rattle.obj_write.specs.Sections.{FileSection, padded_contents, content_at, head_of}
 use Rattle.obj_write.specs.Symbols.{symbol_names, symbol_table_bytes, first_global}
 use Rattle.obj_write.specs.Relocations.{relocation_table}
 use Rattle.obj_write.specs.Object.{no_part, section_type, section_flags, part_head, symbols_head, strings_head, relocations_head, symtab_index, relocated_in, object_section_names, part_section, symtab_section, strtab_section, shstrtab_section, relocation_section, file_sections, shstrtab_index, object_of}
 use Rattle.obj_write.proofs.ReadLemmas.{Stands, stands_left, stands_within, stands_each, IsSmall, header}
+use Rattle.obj_write.proofs.TableLemmas.{no_section, head_at}
 use Rattle.obj_write.proofs.FileLemmas.{table_place, stands_whole, IsLaid, laid, no_head, first_header, next_header}
 use Rattle.obj_write.proofs.ObjectLemmas.{relocated_few, relocated_within}
 use Rattle.obj_write.proofs.SizeLemmas.{length_sections, part_at, symtab_at, strtab_at, shstrtab_at, relocations_at, at_all, relocations_few, length_symbols}
@@ -23,7 +24,7 @@ use Rattle.obj_write.proofs.UnitLemmas.{part_header, symtab_parts, strtab_parts,
 
 -- ---- where contents stand
 
-head_is : (sections : List FileSection) (k : ℕ) (s : FileSection) → get_or sections k no_section ≡ s → head_of sections k ≡ record s.head { offset = content_at sections k }
+head_is : (sections : List FileSection) (k : ℕ) (s : FileSection) → get_or sections k no_section ≡ s → head_at sections k ≡ record s.head { offset = content_at sections k }
 unfolding head_of
 head_is sections k s e = ap (λ (t : FileSection). record t.head { offset = content_at sections k }) e
 
@@ -63,28 +64,28 @@ offset_few unit is k lt = let a = content_below (file_sections unit) k lt in let
 -- ---- the header of each kind of section, with its place
 
 part_of_file : (unit : UnitValue) (k : ℕ) → k < length unit.sections
-    → head_of (file_sections unit) k ≡ record (part_head (get_or unit.sections k no_part) (name_at (object_section_names unit) k)) { offset = content_at (file_sections unit) k }
+    → head_at (file_sections unit) k ≡ record (part_head (get_or unit.sections k no_part) (name_at (object_section_names unit) k)) { offset = content_at (file_sections unit) k }
 part_of_file unit k lt = head_is (file_sections unit) k (part_section unit k) (part_at unit k lt) ∙ ap (λ (h : Head). record h { offset = content_at (file_sections unit) k }) (part_header unit k)
 
-symtab_of_file : (unit : UnitValue) → head_of (file_sections unit) (length unit.sections + 0)
+symtab_of_file : (unit : UnitValue) → head_at (file_sections unit) (length unit.sections + 0)
     ≡ record (symbols_head (name_at (object_section_names unit) (length unit.sections)) (length (symbol_table_bytes unit.symbols)) unit) { offset = content_at (file_sections unit) (length unit.sections + 0) }
 symtab_of_file unit = head_is (file_sections unit) (length unit.sections + 0) (symtab_section unit) (symtab_at unit) ∙ ap (λ (h : Head). record h { offset = content_at (file_sections unit) (length unit.sections + 0) }) (symtab_parts unit).0
 
-strtab_of_file : (unit : UnitValue) → head_of (file_sections unit) (length unit.sections + 1)
+strtab_of_file : (unit : UnitValue) → head_at (file_sections unit) (length unit.sections + 1)
     ≡ record (strings_head (name_at (object_section_names unit) (length unit.sections + 1)) (length (string_table (symbol_names unit.symbols)))) { offset = content_at (file_sections unit) (length unit.sections + 1) }
 strtab_of_file unit = head_is (file_sections unit) (length unit.sections + 1) (strtab_section unit) (strtab_at unit) ∙ ap (λ (h : Head). record h { offset = content_at (file_sections unit) (length unit.sections + 1) }) (strtab_parts unit).0
 
-shstrtab_of_file : (unit : UnitValue) → head_of (file_sections unit) (length unit.sections + 2)
+shstrtab_of_file : (unit : UnitValue) → head_at (file_sections unit) (length unit.sections + 2)
     ≡ record (strings_head (name_at (object_section_names unit) (length unit.sections + 2)) (length (string_table (object_section_names unit)))) { offset = content_at (file_sections unit) (length unit.sections + 2) }
 shstrtab_of_file unit = head_is (file_sections unit) (length unit.sections + 2) (shstrtab_section unit) (shstrtab_at unit) ∙ ap (λ (h : Head). record h { offset = content_at (file_sections unit) (length unit.sections + 2) }) (shstrtab_parts unit).0
 
-relocations_of_file : (unit : UnitValue) (j : ℕ) → j < length (relocated_in unit) → head_of (file_sections unit) (length unit.sections + (3 + j))
+relocations_of_file : (unit : UnitValue) (j : ℕ) → j < length (relocated_in unit) → head_at (file_sections unit) (length unit.sections + (3 + j))
     ≡ record (relocations_head (name_at (object_section_names unit) (length unit.sections + 3 + j)) (length (relocation_table unit.relocations (target_of unit j))) (symtab_index unit) (target_of unit j)) { offset = content_at (file_sections unit) (length unit.sections + (3 + j)) }
 relocations_of_file unit j lt = head_is (file_sections unit) (length unit.sections + (3 + j)) (relocation_section unit j) (relocations_at unit j lt) ∙ ap (λ (h : Head). record h { offset = content_at (file_sections unit) (length unit.sections + (3 + j)) }) (relocation_parts unit j).0
 
 -- ---- each field fits a word
 
-small_part : (unit : UnitValue) → IsUnit unit → (k : ℕ) → k < length unit.sections → IsSmall (head_of (file_sections unit) k)
+small_part : (unit : UnitValue) → IsUnit unit → (k : ℕ) → k < length unit.sections → IsSmall (head_at (file_sections unit) k)
 small_part unit is k lt =
     let n = length_sections unit in
     let name = name_few unit is k in
@@ -105,7 +106,7 @@ small_part unit is k lt =
       entry_size = omega arith;
     }
 
-small_symtab : (unit : UnitValue) → IsUnit unit → IsSmall (head_of (file_sections unit) (length unit.sections + 0))
+small_symtab : (unit : UnitValue) → IsUnit unit → IsSmall (head_at (file_sections unit) (length unit.sections + 0))
 small_symtab unit is =
     let n = length_sections unit in
     let name = name_few unit is (length unit.sections) in
@@ -139,14 +140,14 @@ small_strings name size at a b c = record {
   entry_size = omega arith;
 }
 
-small_strtab : (unit : UnitValue) → IsUnit unit → IsSmall (head_of (file_sections unit) (length unit.sections + 1))
+small_strtab : (unit : UnitValue) → IsUnit unit → IsSmall (head_at (file_sections unit) (length unit.sections + 1))
 small_strtab unit is =
     let n = length_sections unit in
     let name = name_few unit is (length unit.sections + 1) in
     let size = symbol_names_few unit is in
     subst IsSmall (sym (strtab_of_file unit)) (small_strings _ _ _ (omega (arith, name)) (omega (arith, size)) (offset_few unit is (length unit.sections + 1) (omega (arith, n))))
 
-small_shstrtab : (unit : UnitValue) → IsUnit unit → IsSmall (head_of (file_sections unit) (length unit.sections + 2))
+small_shstrtab : (unit : UnitValue) → IsUnit unit → IsSmall (head_at (file_sections unit) (length unit.sections + 2))
 small_shstrtab unit is =
     let n = length_sections unit in
     let name = name_few unit is (length unit.sections + 2) in
@@ -157,7 +158,7 @@ small_shstrtab unit is =
 pub target_within : (unit : UnitValue) (j : ℕ) → j < length (relocated_in unit) → target_of unit j < length unit.sections
 target_within unit j lt = All-get_or (λ i. i < length unit.sections) (relocated_in unit) j 0 lt (relocated_within unit.relocations (length unit.sections))
 
-small_relocations : (unit : UnitValue) → IsUnit unit → (j : ℕ) → j < length (relocated_in unit) → IsSmall (head_of (file_sections unit) (length unit.sections + (3 + j)))
+small_relocations : (unit : UnitValue) → IsUnit unit → (j : ℕ) → j < length (relocated_in unit) → IsSmall (head_at (file_sections unit) (length unit.sections + (3 + j)))
 small_relocations unit is j lt =
     let n = length_sections unit in
     let name = name_few unit is (length unit.sections + 3 + j) in
@@ -178,9 +179,9 @@ small_relocations unit is j lt =
       entry_size = omega arith;
     }
 
-pub small_heads : (unit : UnitValue) → IsUnit unit → (k : ℕ) → k < length unit.sections + (3 + length (relocated_in unit)) → IsSmall (head_of (file_sections unit) k)
+pub small_heads : (unit : UnitValue) → IsUnit unit → (k : ℕ) → k < length unit.sections + (3 + length (relocated_in unit)) → IsSmall (head_at (file_sections unit) k)
 small_heads unit is =
-    at_all (λ k. IsSmall (head_of (file_sections unit) k)) unit (small_part unit is) (small_symtab unit is) (small_strtab unit is) (small_shstrtab unit is) (small_relocations unit is)
+    at_all (λ k. IsSmall (head_at (file_sections unit) k)) unit (small_part unit is) (small_symtab unit is) (small_strtab unit is) (small_shstrtab unit is) (small_relocations unit is)
 
 -- ---- the file
 
@@ -198,7 +199,7 @@ counted_sections unit is = let l = unit_laid unit is in let a = l.count in let n
 pub zero_header : (unit : UnitValue) → IsUnit unit → header_of (object_of unit) 0 ≡ header no_head
 zero_header unit is = first_header (file_sections unit) (shstrtab_index unit) (object_of unit) (unit_laid unit is)
 
-any_header : (unit : UnitValue) → IsUnit unit → (k : ℕ) → k < length unit.sections + (3 + length (relocated_in unit)) → header_of (object_of unit) (suc k) ≡ header (head_of (file_sections unit) k)
+any_header : (unit : UnitValue) → IsUnit unit → (k : ℕ) → k < length unit.sections + (3 + length (relocated_in unit)) → header_of (object_of unit) (suc k) ≡ header (head_at (file_sections unit) k)
 any_header unit is k lt =
     let n = length_sections unit in
     next_header (file_sections unit) (shstrtab_index unit) (object_of unit) k (unit_laid unit is) (omega (arith, n)) (small_heads unit is k lt)

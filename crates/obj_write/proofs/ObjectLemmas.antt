@@ -4,7 +4,7 @@ use Rattle.std.specs.List.{All}
 use Rattle.std.proofs.lemmas.List.{get_or-map, append-nil, length-map}
 use Rattle.std.proofs.lemmas.List.Elements.{All-nil, All-append, All-cons, All-weaker, All-same, All-get_or}
 use Rattle.elf_objects.specs.Passes.{each_below, all_below}
-use Rattle.elf_objects.proofs.PassLemmas.{each_below_more, each_below_zero, length_each_below, at_each}
+use Rattle.elf_objects.proofs.PassLemmas.{each_below_more, each_below_zero, at_each}
 use Rattle.asm_text.specs.declared.unit.AsmSection.{AsmSection}
 use Rattle.asm_text.specs.declared.unit.AsmRelocation.{AsmRelocation}
 use Rattle.asm_text.specs.declared.unit.AsmUnit.{AsmUnit}
@@ -17,12 +17,13 @@ use Rattle.obj_write.specs.declared.strings.Strings.{Strings}
 use Rattle.elf_objects.specs.Numbers.{file_header_size}
 use Rattle.obj_write.specs.Strings.{name_at}
 use Rattle.obj_write.specs.internal.Strings.{IsTableOf}
-use Rattle.obj_write.specs.Sections.{FileSection, padded_contents, head_of, header_table}
+use Rattle.obj_write.specs.Sections.{FileSection, padded_contents, header_table}
 use Rattle.obj_write.specs.internal.Sections.{AreSections}
 use Rattle.obj_write.specs.Symbols.{symbol_table_bytes}
 use Rattle.obj_write.specs.Relocations.{relocations_in, relocation_table, index_where_some, relocated_sections}
 use Rattle.obj_write.specs.Object.{no_part, table_names, part_names, relocation_name, relocated_in, object_section_names, part_head, part_section, relocations_head, symtab_index, relocation_section, symbols_head, strings_head, symtab_section, file_header, file_bytes}
 use Rattle.obj_write.proofs.RelocationLemmas.{counted}
+use Rattle.obj_write.proofs.TableLemmas.{length_heads}
 
 -- ---- the sections with relocations
 
@@ -210,7 +211,7 @@ pub whole_file : (s : Sections) (names table count : ℕ) (begun out : List ℕ)
 unfolding file_bytes
 whole_file s names table count begun out at counted_as first rest list are =
     let a : table ≡ file_header_size + length (padded_contents list) = at ∙ ap (λ n. file_header_size + n) (s.contents.ok.0 ∙ ap length are.contents) in
-    let b : count ≡ length list + 1 = counted_as ∙ ap (λ n. n + 1) (s.heads.ok.0 ∙ (ap length are.heads ∙ length_each_below (head_of list) (length list))) in
+    let b : count ≡ length list + 1 = counted_as ∙ ap (λ n. n + 1) (s.heads.ok.0 ∙ (ap length are.heads ∙ length_heads list)) in
     rest list are ∙ ap (λ l. l ++ (padded_contents list ++ header_table list)) (first ∙ (ap (λ n. file_header n count names) a ∙ ap (λ n. file_header (file_header_size + length (padded_contents list)) n names) b))
 
 -- a unit has few sections

@@ -14,11 +14,12 @@ use Rattle.asm_text.specs.declared.unit.SectionKind.{SectionKind}
 use Rattle.asm_text.specs.declared.unit.SectionKind.TheVariants.{Code, Data, Bss}
 use Rattle.asm_text.specs.Parts.{SectionValue, UnitValue, IsUnit, IsSectionValue, kept_size}
 use Rattle.obj_write.specs.Strings.{terminated, string_table, name_at}
-use Rattle.obj_write.specs.Sections.{FileSection, no_section, content_at}
+use Rattle.obj_write.specs.Sections.{FileSection, content_at}
 use Rattle.obj_write.specs.Object.{no_part, section_type, strings_head, part_names, table_names, relocation_name, relocated_in, object_section_names, file_sections, shstrtab_index, object_of}
 use Rattle.obj_write.specs.Reader.{IsPartRead}
 use Rattle.obj_write.proofs.ReadLemmas.{Stands, stands_left, stands_right, stands_drop, stands_each, header}
 use Rattle.obj_write.proofs.ObjectLemmas.{length_names}
+use Rattle.obj_write.proofs.TableLemmas.{no_section}
 use Rattle.obj_write.proofs.SizeLemmas.{length_sections, part_at, shstrtab_at}
 use Rattle.obj_write.proofs.NameLemmas.{IsString, name_ends, section_strings}
 use Rattle.obj_write.proofs.UnitLemmas.{part_content, shstrtab_parts}

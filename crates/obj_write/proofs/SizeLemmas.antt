@@ -11,12 +11,13 @@ use Rattle.asm_text.specs.Parts.{SymbolValue, UnitValue}
 use Rattle.elf_objects.specs.Numbers.{symbol_size}
 use Rattle.obj_write.specs.Bytes.{gap, padded_bytes}
 use Rattle.obj_write.specs.Strings.{terminated, string_table, name_at}
-use Rattle.obj_write.specs.Sections.{FileSection, no_section}
+use Rattle.obj_write.specs.Sections.{FileSection}
 use Rattle.obj_write.specs.Symbols.{symbol_entry, symbol_entry_at, symbol_names, symbol_table_bytes}
 use Rattle.obj_write.specs.Relocations.{relocation_entry, relocations_in, relocation_table}
 use Rattle.obj_write.specs.Object.{relocated_in, part_section, symtab_section, strtab_section, shstrtab_section, table_sections, relocation_section, file_sections}
 use Rattle.obj_write.proofs.ReadLemmas.{length_below}
 use Rattle.obj_write.proofs.RelocationLemmas.{length_entry}
+use Rattle.obj_write.proofs.TableLemmas.{no_section}
 
 -- ---- where each section is in the list
 

@@ -3,7 +3,7 @@ use Rattle.std.proofs.Common.{◌≡◌, ℕ, ◌+◌, ◌<◌, ◌≤◌, List,
 use Rattle.std.specs.List.{flat_map}
 use Rattle.std.proofs.lemmas.List.{flat_map_more, take-append-le, take_all, length_push, get_or_at, get_or_append_left}
 use Rattle.elf_objects.specs.Passes.{each_below, all_below}
-use Rattle.elf_objects.proofs.PassLemmas.{each_below_more, each_below_zero, at_each}
+use Rattle.elf_objects.proofs.PassLemmas.{each_below_more, each_below_zero, length_each_below, at_each}
 use Rattle.obj_write.specs.declared.strings.Strings.{Strings}
 use Rattle.obj_write.specs.declared.sections.Head.{Head}
 use Rattle.obj_write.specs.declared.sections.Sections.{Sections}
@@ -11,9 +11,9 @@ use Rattle.elf_objects.specs.Numbers.{file_header_size, section_header_size}
 use Rattle.obj_write.specs.Bytes.{padded_bytes}
 use Rattle.obj_write.specs.Strings.{terminated, string_table, name_at}
 use Rattle.obj_write.specs.internal.Strings.{IsTableOf}
-use Rattle.obj_write.specs.Sections.{FileSection, no_section, padded_contents, content_at, head_of, head_bytes, header_table}
+use Rattle.obj_write.specs.Sections.{FileSection, padded_contents, content_at, head_of, heads_of, head_bytes, header_table}
 use Rattle.obj_write.specs.internal.Sections.{AreSections}
-use Rattle.obj_write.proofs.PassLemmas.{each_below_same, flat_map_each}
+use Rattle.obj_write.proofs.PassLemmas.{each_below_same, flat_map_each, each_numbered}
 
 -- ---- string tables
 
@@ -63,6 +63,29 @@ place_is names s k is lt = ap (λ l. get_or l k 0) is.places ∙ at_each (name_a
 
 -- ---- sections
 
+-- a section for a place past the end
+abbrev pub no_section : FileSection
+no_section = record {
+  head = record { name = 0; kind = 0; flags = 0; offset = 0; size = 0; link = 0; info = 0; align = 0; entry_size = 0 };
+  content = [];
+}
+
+-- the header of this index
+abbrev pub head_at : List FileSection → ℕ → Head
+head_at sections k = head_of sections k (get_or sections k no_section)
+
+heads_each : (sections : List FileSection) → heads_of sections ≡ each_below (head_at sections) (length sections)
+unfolding heads_of
+heads_each sections = each_numbered (head_of sections) sections no_section
+
+pub length_heads : (sections : List FileSection) → length (heads_of sections) ≡ length sections
+length_heads sections = ap length (heads_each sections) ∙ length_each_below (head_at sections) (length sections)
+
+pub table_below : (sections : List FileSection) → header_table sections ≡ replicate section_header_size 0 ++ all_below (λ k. head_bytes (head_at sections k)) (length sections)
+unfolding header_table
+table_below sections =
+    ap (λ l. replicate section_header_size 0 ++ l) (ap (flat_map head_bytes) (heads_each sections) ∙ flat_map_each head_bytes (head_at sections) (length sections))
+
 contents_more : (sections : List FileSection) (s : FileSection) → padded_contents (sections ++ s ∷ []) ≡ padded_contents sections ++ padded_bytes s.content
 unfolding padded_contents
 contents_more sections s = sym (flat_map_more (λ (t : FileSection). padded_bytes t.content) [] sections s)
@@ -76,29 +99,33 @@ unfolding content_at
 content_at_end sections more =
     ap (λ l. file_header_size + length (padded_contents l)) (take-append-le (length sections) sections more (omega arith) ∙ take_all (length sections) sections (omega arith))
 
-head_of-append : (sections more : List FileSection) (k : ℕ) → k < length sections → head_of (sections ++ more) k ≡ head_of sections k
+head_at-append : (sections more : List FileSection) (k : ℕ) → k < length sections → head_at (sections ++ more) k ≡ head_at sections k
 unfolding head_of
-head_of-append sections more k lt =
+head_at-append sections more k lt =
     ap (λ (s : FileSection). record s.head { offset = content_at (sections ++ more) k }) (get_or_append_left sections more no_section k lt)
     ∙ ap (λ (at : ℕ). record ((get_or sections k no_section).head) { offset = at }) (content_at-append sections more k (omega arith))
 
-head_of_end : (sections : List FileSection) (s : FileSection) → head_of (sections ++ s ∷ []) (length sections) ≡ record s.head { offset = file_header_size + length (padded_contents sections) }
+head_at_end : (sections : List FileSection) (s : FileSection) → head_at (sections ++ s ∷ []) (length sections) ≡ record s.head { offset = file_header_size + length (padded_contents sections) }
 unfolding head_of
-head_of_end sections s =
+head_at_end sections s =
     ap (λ (t : FileSection). record t.head { offset = content_at (sections ++ s ∷ []) (length sections) }) (get_or_at sections s [] no_section (length sections) refl)
     ∙ ap (λ (at : ℕ). record s.head { offset = at }) (content_at_end sections (s ∷ []))
 
 heads_more : (sections : List FileSection) (s : FileSection)
-    → each_below (head_of (sections ++ s ∷ [])) (length (sections ++ s ∷ [])) ≡ each_below (head_of sections) (length sections) ++ record s.head { offset = file_header_size + length (padded_contents sections) } ∷ []
+    → heads_of (sections ++ s ∷ []) ≡ heads_of sections ++ record s.head { offset = file_header_size + length (padded_contents sections) } ∷ []
 heads_more sections s =
-    ap (each_below (head_of (sections ++ s ∷ []))) (length_push sections s)
-    ∙ (each_below_more (head_of (sections ++ s ∷ [])) (length sections)
-    ∙ (ap (λ l. l ++ head_of (sections ++ s ∷ []) (length sections) ∷ []) (each_below_same (head_of (sections ++ s ∷ [])) (head_of sections) (length sections) (λ k lt. head_of-append sections (s ∷ []) k lt))
-    ∙ ap (λ (h : Head). each_below (head_of sections) (length sections) ++ h ∷ []) (head_of_end sections s)))
+    let more : List FileSection = sections ++ s ∷ [] in
+    let before : each_below (head_at more) (length sections) ≡ heads_of sections
+    = each_below_same (head_at more) (head_at sections) (length sections) (λ k lt. head_at-append sections (s ∷ []) k lt) ∙ sym (heads_each sections) in
+    heads_each more
+    ∙ (ap (each_below (head_at more)) (length_push sections s)
+    ∙ (each_below_more (head_at more) (length sections)
+    ∙ (ap (λ l. l ++ head_at more (length sections) ∷ []) before
+    ∙ ap (λ (h : Head). heads_of sections ++ h ∷ []) (head_at_end sections s))))
 
 pub no_sections : (s : Sections) → s.contents.items ≡ [] → s.heads.items ≡ [] → AreSections [] s
-unfolding padded_contents
-no_sections s contents heads = record { contents = contents; heads = heads ∙ sym (each_below_zero (head_of [])) }
+unfolding padded_contents heads_of
+no_sections s contents heads = record { contents = contents; heads = heads }
 
 -- a section more
 pub sections_more : (sections : List FileSection) (head : Head) (content : List ℕ) (old new : Sections)
@@ -110,7 +137,7 @@ sections_more sections head content old new contents heads are =
       contents = contents ∙ (ap (λ l. l ++ padded_bytes content) are.contents ∙ sym (contents_more sections s));
       heads =
           heads ∙ (ap (λ l. l ++ record head { offset = file_header_size + length old.contents.items } ∷ []) are.heads
-          ∙ (ap (λ (l : List ℕ). each_below (head_of sections) (length sections) ++ record head { offset = file_header_size + length l } ∷ []) are.contents
+          ∙ (ap (λ (l : List ℕ). heads_of sections ++ record head { offset = file_header_size + length l } ∷ []) are.contents
           ∙ sym (heads_more sections s)));
     }
 
@@ -120,9 +147,7 @@ pub put_is : (s : Sections) (o r₁ r₂ r₃ : List ℕ)
     → (sections : List FileSection) → AreSections sections s → r₃ ≡ o ++ (padded_contents sections ++ header_table sections)
 unfolding header_table
 put_is s o r₁ r₂ r₃ e₁ e₂ e₃ sections are =
-    let heads : flat_map head_bytes s.heads.items ≡ all_below (λ k. head_bytes (head_of sections k)) (length sections)
-    = ap (flat_map head_bytes) are.heads ∙ flat_map_each head_bytes (head_of sections) (length sections) in
     let z : List ℕ = replicate section_header_size 0 in
-    let h : List ℕ = all_below (λ k. head_bytes (head_of sections k)) (length sections) in
-    e₃ ∙ (ap (λ l. r₂ ++ l) heads ∙ (ap (λ l. l ++ h) (e₂ ∙ ap (λ l. l ++ z) (e₁ ∙ ap (λ l. o ++ l) are.contents))
+    let h : List ℕ = flat_map head_bytes (heads_of sections) in
+    e₃ ∙ (ap (λ l. r₂ ++ flat_map head_bytes l) are.heads ∙ (ap (λ l. l ++ h) (e₂ ∙ ap (λ l. l ++ z) (e₁ ∙ ap (λ l. o ++ l) are.contents))
     ∙ (append_assoc (o ++ padded_contents sections) z h ∙ append_assoc o (padded_contents sections) (z ++ h))))

@@ -1,8 +1,7 @@
 -- The sections of a file after section 0: their headers and where their contents stand (TIS ELF 1.2, "Sections").
-use Rattle.std.specs.Prelude.{ℕ, ◌+◌, List, [], ◌∷◌, ◌++◌, length, take, slice_index_or, replicate}
-use Rattle.std.specs.List.{flat_map}
+use Rattle.std.specs.Prelude.{ℕ, ◌+◌, List, [], ◌∷◌, ◌++◌, length, map, take, replicate}
+use Rattle.std.specs.List.{flat_map, enumerate_from}
 use Rattle.elf_objects.specs.Numbers.{file_header_size, section_header_size}
-use Rattle.elf_objects.specs.Passes.{all_below}
 use Rattle.obj_write.specs.declared.sections.Head.{Head}
 use Rattle.obj_write.specs.Bytes.{longs_bytes, padded_bytes}
 
@@ -10,12 +9,6 @@ use Rattle.obj_write.specs.Bytes.{longs_bytes, padded_bytes}
 pub record FileSection : Type 0 where
   pub head : Head
   pub content : List ℕ
-
-abbrev pub no_section : FileSection
-no_section = record {
-  head = record { name = 0; kind = 0; flags = 0; offset = 0; size = 0; link = 0; info = 0; align = 0; entry_size = 0 };
-  content = [];
-}
 
 -- contents one after the other, each up to a multiple of 4
 unfoldable pub padded_contents : List FileSection → List ℕ
@@ -25,9 +18,13 @@ padded_contents sections = flat_map (λ s. padded_bytes s.content) sections
 unfoldable pub content_at : List FileSection → ℕ → ℕ
 content_at sections index = file_header_size + length (padded_contents (take index sections))
 
--- the header of this index, with its place
-unfoldable pub head_of : List FileSection → ℕ → Head
-head_of sections index = record ((slice_index_or sections index no_section).head) { offset = content_at sections index }
+-- the header of the section of this index, with its place
+unfoldable pub head_of : List FileSection → ℕ → FileSection → Head
+head_of sections index s = record s.head { offset = content_at sections index }
+
+-- the headers, in order
+unfoldable pub heads_of : List FileSection → List Head
+heads_of sections = map (λ (p : ℕ × FileSection). head_of sections p.0 p.1) (enumerate_from 0 sections)
 
 -- the ten fields of a header; the address is 0
 unfoldable pub head_bytes : Head → List ℕ
@@ -35,5 +32,4 @@ head_bytes h = longs_bytes (h.name ∷ h.kind ∷ h.flags ∷ 0 ∷ h.offset ∷
 
 -- the table of headers; that of section 0 is zeros
 unfoldable pub header_table : List FileSection → List ℕ
-header_table sections =
-    replicate section_header_size 0 ++ all_below (λ k. head_bytes (head_of sections k)) (length sections)
+header_table sections = replicate section_header_size 0 ++ flat_map head_bytes (heads_of sections)
