@@ -27,7 +27,7 @@ use Rattle.elf_objects.specs.Numbers.{symbol_size}
 use Rattle.obj_write.specs.Bytes.{half_bytes, long_bytes}
 use Rattle.obj_write.specs.Strings.{terminated, string_table, name_at}
 use Rattle.obj_write.specs.Sections.{FileSection, content_at}
-use Rattle.obj_write.specs.Symbols.{no_symbol, info_of, home_index, symbol_entry, symbol_entry_at, symbol_names}
+use Rattle.obj_write.specs.Symbols.{info_of, home_index, symbol_entry, symbol_entry_at, symbol_names}
 use Rattle.obj_write.specs.Symbols as own
 use Rattle.obj_write.specs.Relocations.{relocation_entry, relocation_table, relocations_in}
 use Rattle.obj_write.specs.Object.{no_part, section_type, symbols_head, strings_head, relocations_head, symtab_index, shstrtab_index, relocated_in, object_section_names, file_sections, object_of}
@@ -35,6 +35,7 @@ use Rattle.obj_write.specs.Reader.{no_relocation}
 use Rattle.obj_write.proofs.ReadLemmas.{Stands, stands_left, stands_right, stands_below, stands_each, length_below, word_read, word_low, half_read, byte_read, header}
 use Rattle.obj_write.proofs.FileLemmas.{nothing_below, no_head}
 use Rattle.obj_write.proofs.TableLemmas.{no_section}
+use Rattle.obj_write.proofs.SymbolLemmas.{no_symbol, entry_at, entries_below}
 use Rattle.obj_write.proofs.SizeLemmas.{length_sections, symtab_at, strtab_at, relocations_at, length_relocations, length_symbols, length_symbol_at, entries_length}
 use Rattle.obj_write.proofs.NameLemmas.{name_ends, content_read, symbol_strings}
 use Rattle.obj_write.proofs.UnitLemmas.{symtab_parts, strtab_parts, target_of, relocation_parts, symbol_names_few}
@@ -84,16 +85,15 @@ strings_content unit is =
 
 -- ---- an entry of it
 
-entry_stands_by : (file : List ℕ) (at : ℕ) (symbols : List SymbolValue) (k : ℕ) → k < length symbols → Stands file at (own.symbol_table_bytes symbols) → Stands file (at + 16 * suc k) (symbol_entry_at symbols k)
-unfolding own.symbol_table_bytes
+entry_stands_by : (file : List ℕ) (at : ℕ) (symbols : List SymbolValue) (k : ℕ) → k < length symbols → Stands file at (own.symbol_table_bytes symbols) → Stands file (at + 16 * suc k) (entry_at symbols k)
 entry_stands_by file at symbols k lt s =
-    let f : ℕ → List ℕ = symbol_entry_at symbols in
-    let r = stands_right file at (at + 16) (replicate symbol_size 0) (all_below f (length symbols)) refl s in
+    let f : ℕ → List ℕ = entry_at symbols in
+    let r = stands_right file at (at + 16) (replicate symbol_size 0) (all_below f (length symbols)) refl (subst (Stands file at) (entries_below symbols) s) in
     let n = length_below f 16 k (λ j _. length_symbol_at symbols j) in
     let e : at + 16 + length (all_below f k) ≡ at + 16 * suc k = omega (arith, n) in
-    subst (λ (m : ℕ). Stands file m (symbol_entry_at symbols k)) e (stands_below file (at + 16) f (length symbols) k lt r)
+    subst (λ (m : ℕ). Stands file m (entry_at symbols k)) e (stands_below file (at + 16) f (length symbols) k lt r)
 
-pub entry_stands : (unit : UnitValue) → IsUnit unit → (k : ℕ) → k < length unit.symbols → Stands (object_of unit) ((symbols_read unit).offset + 16 * suc k) (symbol_entry_at unit.symbols k)
+pub entry_stands : (unit : UnitValue) → IsUnit unit → (k : ℕ) → k < length unit.symbols → Stands (object_of unit) ((symbols_read unit).offset + 16 * suc k) (entry_at unit.symbols k)
 entry_stands unit is k lt = entry_stands_by (object_of unit) (symbols_read unit).offset unit.symbols k lt (symbols_stand unit is)
 
 -- the fields of an entry that are looked at

@@ -43,3 +43,9 @@ pub each_numbered : {A B : Type 0} (f : ℕ → A → B) (xs : List A) (d : A)
     → map (λ (p : ℕ × A). f p.0 p.1) (enumerate_from 0 xs) ≡ each_below (λ k. f k (get_or xs k d)) (length xs)
 each_numbered {A} f xs d =
     ap (map (λ (p : ℕ × A). f p.0 p.1)) (enumerated xs d) ∙ map_each (λ (p : ℕ × A). f p.0 p.1) (λ k. (k, get_or xs k d)) (length xs)
+
+-- the same of lists, joined
+pub all_numbered : {A B : Type 0} (f : ℕ → A → List B) (xs : List A) (d : A)
+    → flat_map (λ (p : ℕ × A). f p.0 p.1) (enumerate_from 0 xs) ≡ all_below (λ k. f k (get_or xs k d)) (length xs)
+all_numbered {A} f xs d =
+    ap (flat_map (λ (p : ℕ × A). f p.0 p.1)) (enumerated xs d) ∙ flat_map_each (λ (p : ℕ × A). f p.0 p.1) (λ k. (k, get_or xs k d)) (length xs)

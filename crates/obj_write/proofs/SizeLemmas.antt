@@ -18,6 +18,7 @@ use Rattle.obj_write.specs.Object.{relocated_in, part_section, symtab_section, s
 use Rattle.obj_write.proofs.ReadLemmas.{length_below}
 use Rattle.obj_write.proofs.RelocationLemmas.{length_entry}
 use Rattle.obj_write.proofs.TableLemmas.{no_section}
+use Rattle.obj_write.proofs.SymbolLemmas.{entry_at, entries_below}
 
 -- ---- where each section is in the list
 
@@ -134,13 +135,13 @@ length_symbol_entry : (name : ℕ) (s : SymbolValue) → length (symbol_entry na
 unfolding symbol_entry
 length_symbol_entry name s = refl
 
-pub length_symbol_at : (symbols : List SymbolValue) (k : ℕ) → length (symbol_entry_at symbols k) ≡ 16
+pub length_symbol_at : (symbols : List SymbolValue) (k : ℕ) → length (entry_at symbols k) ≡ 16
 unfolding symbol_entry_at
 length_symbol_at symbols k = length_symbol_entry (name_at (symbol_names symbols) k) _
 
 pub length_symbols : (symbols : List SymbolValue) → length (symbol_table_bytes symbols) ≡ 16 + 16 * length symbols
-unfolding symbol_table_bytes
 length_symbols symbols =
-    let a = length-append (replicate symbol_size 0) (all_below (symbol_entry_at symbols) (length symbols)) in
-    let b = length_below (symbol_entry_at symbols) 16 (length symbols) (λ k lt. length_symbol_at symbols k) in
-    omega (arith, a, b)
+    let e = ap length (entries_below symbols) in
+    let a = length-append (replicate symbol_size 0) (all_below (entry_at symbols) (length symbols)) in
+    let b = length_below (entry_at symbols) 16 (length symbols) (λ k lt. length_symbol_at symbols k) in
+    omega (arith, e, a, b)

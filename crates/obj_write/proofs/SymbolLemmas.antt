@@ -14,10 +14,23 @@ use Rattle.obj_write.specs.declared.strings.Strings.{Strings}
 use Rattle.elf_objects.specs.Numbers.{symbol_size}
 use Rattle.obj_write.specs.Strings.{name_at}
 use Rattle.obj_write.specs.internal.Strings.{IsTableOf}
-use Rattle.obj_write.specs.Symbols.{no_symbol, symbol_entry, symbol_entry_at, symbol_names, symbol_table_bytes, first_global}
+use Rattle.obj_write.specs.Symbols.{symbol_entry, symbol_entry_at, symbol_names, symbol_table_bytes, first_global}
+use Rattle.obj_write.proofs.PassLemmas.{all_numbered}
+
+-- a symbol for a place past the end
+abbrev pub no_symbol : SymbolValue
+no_symbol = record { name = []; global = false; home = None; value = 0 }
+
+-- the entry of this index
+abbrev pub entry_at : List SymbolValue → ℕ → List ℕ
+entry_at symbols k = symbol_entry_at symbols k (get_or symbols k no_symbol)
+
+pub entries_below : (symbols : List SymbolValue) → symbol_table_bytes symbols ≡ replicate symbol_size 0 ++ all_below (entry_at symbols) (length symbols)
+unfolding symbol_table_bytes
+entries_below symbols = ap (λ l. replicate symbol_size 0 ++ l) (all_numbered (symbol_entry_at symbols) symbols no_symbol)
 
 entry_at_is : (xs : List AsmSymbol) (i name : ℕ) (x : AsmSymbol) → i < length xs → x ≡ get_or xs i x → name ≡ name_at (symbol_names (map symbol_value xs)) i
-    → symbol_entry name (symbol_value x) ≡ symbol_entry_at (map symbol_value xs) i
+    → symbol_entry name (symbol_value x) ≡ entry_at (map symbol_value xs) i
 unfolding symbol_entry_at
 entry_at_is xs i name x lt is at =
     ap (λ (n : ℕ). symbol_entry n (symbol_value x)) at
@@ -28,27 +41,27 @@ pub entry_added : (xs : List AsmSymbol) (i name : ℕ) (x : AsmSymbol) (strings 
     → IsTableOf (symbol_names (map symbol_value xs)) strings
     → ((names : List (List ℕ)) → IsTableOf names strings → i < length names → name ≡ name_at names i)
     → new ≡ old ++ symbol_entry name (symbol_value x)
-    → old ≡ replicate symbol_size 0 ++ all_below (symbol_entry_at (map symbol_value xs)) i
-    → new ≡ replicate symbol_size 0 ++ all_below (symbol_entry_at (map symbol_value xs)) (i + 1)
+    → old ≡ replicate symbol_size 0 ++ all_below (entry_at (map symbol_value xs)) i
+    → new ≡ replicate symbol_size 0 ++ all_below (entry_at (map symbol_value xs)) (i + 1)
 entry_added xs i name x strings old new lt is table place more so_far =
     let z : List ℕ = replicate symbol_size 0 in
-    let f : ℕ → List ℕ = symbol_entry_at (map symbol_value xs) in
+    let f : ℕ → List ℕ = entry_at (map symbol_value xs) in
     let counted : length (symbol_names (map symbol_value xs)) ≡ length xs = length-map (map symbol_value xs) (λ (s : SymbolValue). s.name) ∙ length-map xs symbol_value in
     let at : name ≡ name_at (symbol_names (map symbol_value xs)) i = place (symbol_names (map symbol_value xs)) table (omega (arith, counted)) in
     more ∙ (ap (λ l. l ++ symbol_entry name (symbol_value x)) so_far
     ∙ (append_assoc z (all_below f i) (symbol_entry name (symbol_value x))
     ∙ ap (λ l. z ++ l) (ap (λ l. all_below f i ++ l) (entry_at_is xs i name x lt is at) ∙ sym (all_below_more f i))))
 
-no_entries : (xs : List AsmSymbol) → replicate symbol_size 0 ≡ replicate symbol_size 0 ++ all_below (symbol_entry_at (map symbol_value xs)) 0
-no_entries xs = sym (ap (λ l. replicate symbol_size 0 ++ l) (all_below_zero (symbol_entry_at (map symbol_value xs))) ∙ append-nil (replicate symbol_size 0))
+no_entries : (xs : List AsmSymbol) → replicate symbol_size 0 ≡ replicate symbol_size 0 ++ all_below (entry_at (map symbol_value xs)) 0
+no_entries xs = sym (ap (λ l. replicate symbol_size 0 ++ l) (all_below_zero (entry_at (map symbol_value xs))) ∙ append-nil (replicate symbol_size 0))
 
-pub table_begun : (xs : List AsmSymbol) (table : List ℕ) → table ≡ replicate symbol_size 0 → table ≡ replicate symbol_size 0 ++ all_below (symbol_entry_at (map symbol_value xs)) 0
+pub table_begun : (xs : List AsmSymbol) (table : List ℕ) → table ≡ replicate symbol_size 0 → table ≡ replicate symbol_size 0 ++ all_below (entry_at (map symbol_value xs)) 0
 table_begun xs table is = is ∙ no_entries xs
 
 pub table_whole : (xs : List AsmSymbol) (table : List ℕ) (n : ℕ) → n ≡ length xs
-    → table ≡ replicate symbol_size 0 ++ all_below (symbol_entry_at (map symbol_value xs)) n → table ≡ symbol_table_bytes (map symbol_value xs)
-unfolding symbol_table_bytes
-table_whole xs table n all is = is ∙ ap (λ k. replicate symbol_size 0 ++ all_below (symbol_entry_at (map symbol_value xs)) k) (all ∙ sym (length-map xs symbol_value))
+    → table ≡ replicate symbol_size 0 ++ all_below (entry_at (map symbol_value xs)) n → table ≡ symbol_table_bytes (map symbol_value xs)
+table_whole xs table n all is =
+    is ∙ (ap (λ k. replicate symbol_size 0 ++ all_below (entry_at (map symbol_value xs)) k) (all ∙ sym (length-map xs symbol_value)) ∙ sym (entries_below (map symbol_value xs)))
 
 -- ---- the first global one
 
