@@ -31,10 +31,10 @@ use Rattle.obj_write.specs.Symbols.{info_of, home_index, symbol_entry, symbol_en
 use Rattle.obj_write.specs.Symbols as own
 use Rattle.obj_write.specs.Relocations.{relocation_entry, relocation_table, relocations_in}
 use Rattle.obj_write.specs.Object.{no_part, section_type, symbols_head, strings_head, relocations_head, symtab_index, shstrtab_index, relocated_in, object_section_names, file_sections, object_of}
-use Rattle.obj_write.specs.Reader.{no_relocation}
 use Rattle.obj_write.proofs.ReadLemmas.{Stands, stands_left, stands_right, stands_below, stands_each, length_below, word_read, word_low, half_read, byte_read, header}
 use Rattle.obj_write.proofs.FileLemmas.{nothing_below, no_head}
 use Rattle.obj_write.proofs.TableLemmas.{no_section}
+use Rattle.obj_write.proofs.RelocationLemmas.{no_relocation}
 use Rattle.obj_write.proofs.SymbolLemmas.{no_symbol, entry_at, entries_below}
 use Rattle.obj_write.proofs.SizeLemmas.{length_sections, symtab_at, strtab_at, relocations_at, length_relocations, length_symbols, length_symbol_at, entries_length}
 use Rattle.obj_write.proofs.NameLemmas.{name_ends, content_read, symbol_strings}

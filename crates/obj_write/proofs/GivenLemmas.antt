@@ -2,6 +2,7 @@
 use Rattle.std.proofs.Common.{◌≡◌, ℕ, zero, suc, ◌+◌, ◌*◌, ◌-◌, ◌/◌, ◌%◌, ◌<◌, ◌≤◌, ◌^◌, List, [], ◌++◌, refl, ap, sym, subst, ◌∙◌, arith, add-one, length, get_or, Bool, true, false, cond, eqb, ◌&&◌, Option, Some, None}
 use Rattle.std.specs.Prelude.{slice_get, pos, ℤ}
 use Rattle.std.specs.Int.{cast_signed, w32}
+use Rattle.std.specs.List.{flat_map, enumerate_from}
 use Rattle.std.proofs.lemmas.Bool.Decides.{nat_tests}
 use Rattle.std.proofs.lemmas.List.{length-map, get_or-map}
 use Rattle.std.proofs.lemmas.List.Elements.{All-get_or, All-filter}
@@ -27,11 +28,12 @@ use Rattle.obj_write.specs.Strings.{string_table}
 use Rattle.obj_write.specs.Symbols.{info_of, home_index, symbol_names}
 use Rattle.obj_write.specs.Relocations.{relocation_entry, relocations_in}
 use Rattle.obj_write.specs.Object.{no_part, section_type, section_flags, relocated_in, object_of}
-use Rattle.obj_write.specs.Reader.{IsPartRead, IsSymbolOf, binding_read, home_read, no_relocation, relocation_read, table_read, IsObjectOf}
-use Rattle.obj_write.proofs.PassLemmas.{each_below_same}
+use Rattle.obj_write.specs.Reader.{IsPartRead, IsSymbolOf, binding_read, home_read, relocation_read, table_read, IsObjectOf}
+use Rattle.obj_write.proofs.PassLemmas.{each_below_same, each_numbered, all_numbered}
 use Rattle.obj_write.proofs.ReadLemmas.{Stands, stands_left, stands_right, word_read, word_low, header}
 use Rattle.obj_write.proofs.FileLemmas.{no_head}
 use Rattle.obj_write.proofs.SymbolLemmas.{no_symbol}
+use Rattle.obj_write.proofs.RelocationLemmas.{no_relocation}
 use Rattle.obj_write.proofs.SizeLemmas.{length_relocations, at_all}
 use Rattle.obj_write.proofs.NameLemmas.{symbol_strings}
 use Rattle.obj_write.proofs.UnitLemmas.{target_of}
@@ -105,7 +107,7 @@ addend_read file at r s =
 
 relocation_given : (unit : UnitValue) → IsUnit unit → (j : ℕ) → j < length (relocated_in unit) → (e : ℕ) → e < length (relocations_in unit.relocations (target_of unit j))
     → relocation_of (object_of unit) (suc (length unit.sections + (3 + j))) (relocations_head_read unit j) e
-    ≡ relocation_read (relocations_in unit.relocations (target_of unit j)) (length unit.sections + 4 + j) (target_of unit j) e
+    ≡ relocation_read (length unit.sections + 4 + j) (target_of unit j) e (get_or (relocations_in unit.relocations (target_of unit j)) e no_relocation)
 unfolding relocation_of
 relocation_given unit is j lt e inside =
     let file : List ℕ = object_of unit in
@@ -139,7 +141,7 @@ not_chosen : {A : Type 0} (b : Bool) (x y : A) → b ≡ false → cond b x y �
 not_chosen false x y e = refl
 not_chosen true x y e = cc
 
-table_given : (unit : UnitValue) → IsUnit unit → (j : ℕ) → j < length (relocated_in unit) → relocations_at (object_of unit) (suc (length unit.sections + (3 + j))) ≡ table_read unit j
+table_given : (unit : UnitValue) → IsUnit unit → (j : ℕ) → j < length (relocated_in unit) → relocations_at (object_of unit) (suc (length unit.sections + (3 + j))) ≡ table_read unit j (target_of unit j)
 unfolding relocations_at
 table_given unit is j lt =
     let file : List ℕ = object_of unit in
@@ -147,12 +149,14 @@ table_given unit is j lt =
     let h : Header = relocations_head_read unit j in
     let target : ℕ = target_of unit j in
     let list : List AsmRelocation = relocations_in unit.relocations target in
+    let read : ℕ → AsmRelocation → Relocation = relocation_read (length unit.sections + 4 + j) target in
     let n = length_relocations unit.relocations target in
     let count : h.size / 12 ≡ length list = omega (arith, n) in
     ap (λ (x : Header). cond (is_kept_table file x) (each_below (relocation_of file i x) (x.size / 12)) []) (relocations_read unit is j lt)
     ∙ (chosen (is_kept_table file h) (each_below (relocation_of file i h) (h.size / 12)) [] (target_loaded unit is j lt)
     ∙ (ap (each_below (relocation_of file i h)) count
-    ∙ each_below_same (relocation_of file i h) (relocation_read list (length unit.sections + 4 + j) target) (length list) (relocation_given unit is j lt)))
+    ∙ (each_below_same (relocation_of file i h) (λ e. read e (get_or list e no_relocation)) (length list) (relocation_given unit is j lt)
+    ∙ sym (each_numbered read list no_relocation))))
 
 none_at : (file : List ℕ) (i : ℕ) (h : Header) → header_of file i ≡ h → is_kept_table file h ≡ false → relocations_at file i ≡ []
 unfolding relocations_at
@@ -188,7 +192,7 @@ shifted f g a (suc n) none same =
     let e : a + suc n ≡ suc (a + n) = omega arith in
     rw e (rw (shifted f g a n none (λ j lt. same j (omega arith)), same n (omega arith)) refl)
 
-relocations_given : (unit : UnitValue) → IsUnit unit → relocations_of (object_of unit) ≡ all_below (table_read unit) (length (relocated_in unit))
+relocations_given : (unit : UnitValue) → IsUnit unit → relocations_of (object_of unit) ≡ flat_map (λ (p : ℕ × ℕ). table_read unit p.0 p.1) (enumerate_from 0 (relocated_in unit))
 unfolding relocations_of
 relocations_given unit is =
     let file : List ℕ = object_of unit in
@@ -196,8 +200,9 @@ relocations_given unit is =
     let c = counted_sections unit is in
     let count : section_count file ≡ n + 4 + length (relocated_in unit) = omega (arith, c) in
     ap (all_below (relocations_at file)) count
-    ∙ shifted (relocations_at file) (table_read unit) (n + 4) (length (relocated_in unit)) (none_before unit is)
+    ∙ (shifted (relocations_at file) (λ j. table_read unit j (target_of unit j)) (n + 4) (length (relocated_in unit)) (none_before unit is)
     (λ j lt. let e : n + 4 + j ≡ suc (n + (3 + j)) = omega arith in ap (relocations_at file) e ∙ table_given unit is j lt)
+    ∙ sym (all_numbered (table_read unit) (relocated_in unit) 0))
 
 -- ---- what is not loaded
 

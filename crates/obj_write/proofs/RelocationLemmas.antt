@@ -11,6 +11,10 @@ use Rattle.elf_objects.proofs.PassLemmas.{each_below_more, each_below_zero, leng
 use Rattle.asm_text.specs.declared.unit.AsmRelocation.{AsmRelocation}
 use Rattle.obj_write.specs.Relocations.{relocation_entry, relocations_in, relocation_table, index_where_some, relocated_sections}
 
+-- a relocation for a place past the end
+abbrev pub no_relocation : AsmRelocation
+no_relocation = record { section = 0; offset = 0; symbol = 0 }
+
 -- ---- one more
 
 table_same : (rs : List AsmRelocation) (i : ℕ) (r : AsmRelocation) (section : ℕ) → i < length rs → r ≡ get_or rs i r

@@ -1,5 +1,6 @@
 -- What the object reader gives of a unit's file.
-use Rattle.std.specs.Prelude.{◌≡◌, ℕ, ◌+◌, ◌%◌, ◌^◌, ◌<◌, Bool, true, false, List, length, Option, Some, None, slice_get, slice_index_or, slice_range, pos}
+use Rattle.std.specs.Prelude.{◌≡◌, ℕ, ◌+◌, ◌%◌, ◌^◌, ◌<◌, Bool, true, false, List, length, map, Option, Some, None, slice_get, slice_range, pos}
+use Rattle.std.specs.List.{flat_map, enumerate_from}
 use Rattle.elf_objects.specs.declared.object.SectionHead.{SectionHead}
 use Rattle.elf_objects.specs.declared.object.Symbol.{Symbol}
 use Rattle.elf_objects.specs.declared.object.Relocation.{Relocation}
@@ -7,7 +8,6 @@ use Rattle.elf_objects.specs.declared.object.Binding.{Binding}
 use Rattle.elf_objects.specs.declared.object.Binding.TheVariants as binding
 use Rattle.elf_objects.specs.declared.object.Home.{Home}
 use Rattle.elf_objects.specs.declared.object.Home.TheVariants as home
-use Rattle.elf_objects.specs.Passes.{each_below, all_below}
 use Rattle.elf_objects.specs.Section.{is_loaded}
 use Rattle.elf_objects.specs.Object.{ObjectValue}
 use Rattle.asm_text.specs.declared.unit.AsmRelocation.{AsmRelocation}
@@ -41,12 +41,9 @@ pub record IsSymbolOf (file : List ℕ) (s : SymbolValue) (symbol : Symbol) : Ty
   pub binding : symbol.binding ≡ binding_read s.global
   pub home : symbol.home ≡ home_read s.home
 
-abbrev pub no_relocation : AsmRelocation
-no_relocation = record { section = 0; offset = 0; symbol = 0 }
-
 -- the relocation of this place among those of a section, which stand in the table of this index; its offset is a number of 32 bits
-abbrev pub relocation_read : List AsmRelocation → ℕ → ℕ → ℕ → Relocation
-relocation_read list table section entry = let r = slice_index_or list entry no_relocation in record {
+abbrev pub relocation_read : ℕ → ℕ → ℕ → AsmRelocation → Relocation
+relocation_read table section entry r = record {
   table = table;
   entry = entry;
   target = section + 1;
@@ -57,9 +54,9 @@ relocation_read list table section entry = let r = slice_index_or list entry no_
 }
 
 -- those of one table; the tables follow section 0, the unit's sections and three more
-abbrev pub table_read : UnitValue → ℕ → List Relocation
-table_read unit j = let section = slice_index_or (relocated_in unit) j 0 in let list = relocations_in unit.relocations section in
-    each_below (relocation_read list (length unit.sections + 4 + j) section) (length list)
+abbrev pub table_read : UnitValue → ℕ → ℕ → List Relocation
+table_read unit j section =
+    map (λ (p : ℕ × AsmRelocation). relocation_read (length unit.sections + 4 + j) section p.0 p.1) (enumerate_from 0 (relocations_in unit.relocations section))
 
 -- the object has the unit's sections, symbols and relocations, and beside them only section 0, symbol 0 and tables
 pub record IsObjectOf (unit : UnitValue) (object : ObjectValue) : Type 0 where
@@ -69,4 +66,4 @@ pub record IsObjectOf (unit : UnitValue) (object : ObjectValue) : Type 0 where
   pub tables : (k : ℕ) (head : SectionHead) → length unit.sections < k → slice_get object.sections k ≡ Some head → is_loaded head.kind head.flags ≡ false
   pub symbol_count : length object.symbols ≡ length unit.symbols + 1
   pub symbols : (k : ℕ) (s : SymbolValue) (symbol : Symbol) → slice_get unit.symbols k ≡ Some s → slice_get object.symbols (k + 1) ≡ Some symbol → IsSymbolOf object.file s symbol
-  pub relocations : object.relocations ≡ all_below (table_read unit) (length (relocated_in unit))
+  pub relocations : object.relocations ≡ flat_map (λ (p : ℕ × ℕ). table_read unit p.0 p.1) (enumerate_from 0 (relocated_in unit))
