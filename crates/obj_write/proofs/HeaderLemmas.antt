@@ -14,11 +14,11 @@ use Rattle.obj_write.specs.Strings.{string_table, name_at}
 use Rattle.obj_write.specs.Sections.{FileSection, padded_contents, content_at, head_of}
 use Rattle.obj_write.specs.Symbols.{symbol_names, symbol_table_bytes, first_global}
 use Rattle.obj_write.specs.Relocations.{relocation_table}
-use Rattle.obj_write.specs.Object.{no_part, section_type, section_flags, part_head, symbols_head, strings_head, relocations_head, symtab_index, relocated_in, object_section_names, part_section, symtab_section, strtab_section, shstrtab_section, relocation_section, file_sections, shstrtab_index, object_of}
+use Rattle.obj_write.specs.Object.{no_part, section_type, section_flags, part_head, symbols_head, strings_head, relocations_head, symtab_index, relocated_in, object_section_names, symtab_section, strtab_section, shstrtab_section, file_sections, shstrtab_index, object_of}
 use Rattle.obj_write.proofs.ReadLemmas.{Stands, stands_left, stands_within, stands_each, IsSmall, header}
 use Rattle.obj_write.proofs.TableLemmas.{no_section, head_at}
 use Rattle.obj_write.proofs.FileLemmas.{table_place, stands_whole, IsLaid, laid, no_head, first_header, next_header}
-use Rattle.obj_write.proofs.ObjectLemmas.{relocated_few, relocated_within}
+use Rattle.obj_write.proofs.ObjectLemmas.{relocated_few, relocated_within, part_of, table_of}
 use Rattle.obj_write.proofs.SizeLemmas.{length_sections, part_at, symtab_at, strtab_at, shstrtab_at, relocations_at, at_all, relocations_few, length_symbols}
 use Rattle.obj_write.proofs.UnitLemmas.{part_header, symtab_parts, strtab_parts, shstrtab_parts, target_of, relocation_parts, symbol_names_few, section_names_few, name_few, few_contents}
 
@@ -65,7 +65,7 @@ offset_few unit is k lt = let a = content_below (file_sections unit) k lt in let
 
 part_of_file : (unit : UnitValue) (k : ℕ) → k < length unit.sections
     → head_at (file_sections unit) k ≡ record (part_head (get_or unit.sections k no_part) (name_at (object_section_names unit) k)) { offset = content_at (file_sections unit) k }
-part_of_file unit k lt = head_is (file_sections unit) k (part_section unit k) (part_at unit k lt) ∙ ap (λ (h : Head). record h { offset = content_at (file_sections unit) k }) (part_header unit k)
+part_of_file unit k lt = head_is (file_sections unit) k (part_of unit k) (part_at unit k lt) ∙ ap (λ (h : Head). record h { offset = content_at (file_sections unit) k }) (part_header unit k)
 
 symtab_of_file : (unit : UnitValue) → head_at (file_sections unit) (length unit.sections + 0)
     ≡ record (symbols_head (name_at (object_section_names unit) (length unit.sections)) (length (symbol_table_bytes unit.symbols)) unit) { offset = content_at (file_sections unit) (length unit.sections + 0) }
@@ -81,7 +81,7 @@ shstrtab_of_file unit = head_is (file_sections unit) (length unit.sections + 2) 
 
 relocations_of_file : (unit : UnitValue) (j : ℕ) → j < length (relocated_in unit) → head_at (file_sections unit) (length unit.sections + (3 + j))
     ≡ record (relocations_head (name_at (object_section_names unit) (length unit.sections + 3 + j)) (length (relocation_table unit.relocations (target_of unit j))) (symtab_index unit) (target_of unit j)) { offset = content_at (file_sections unit) (length unit.sections + (3 + j)) }
-relocations_of_file unit j lt = head_is (file_sections unit) (length unit.sections + (3 + j)) (relocation_section unit j) (relocations_at unit j lt) ∙ ap (λ (h : Head). record h { offset = content_at (file_sections unit) (length unit.sections + (3 + j)) }) (relocation_parts unit j).0
+relocations_of_file unit j lt = head_is (file_sections unit) (length unit.sections + (3 + j)) (table_of unit j) (relocations_at unit j lt) ∙ ap (λ (h : Head). record h { offset = content_at (file_sections unit) (length unit.sections + (3 + j)) }) (relocation_parts unit j).0
 
 -- ---- each field fits a word
 

@@ -21,7 +21,8 @@ use Rattle.obj_write.specs.Sections.{FileSection, padded_contents, header_table}
 use Rattle.obj_write.specs.internal.Sections.{AreSections}
 use Rattle.obj_write.specs.Symbols.{symbol_table_bytes}
 use Rattle.obj_write.specs.Relocations.{relocations_in, relocation_table, index_where_some, relocated_sections}
-use Rattle.obj_write.specs.Object.{no_part, table_names, part_names, relocation_name, relocated_in, object_section_names, part_head, part_section, relocations_head, symtab_index, relocation_section, symbols_head, strings_head, symtab_section, file_header, file_bytes}
+use Rattle.obj_write.specs.Object.{no_part, table_names, part_names, relocation_name, relocated_in, object_section_names, part_head, part_section, part_sections, relocations_head, symtab_index, relocation_section, relocation_sections, symbols_head, strings_head, symtab_section, file_header, file_bytes}
+use Rattle.obj_write.proofs.PassLemmas.{each_numbered}
 use Rattle.obj_write.proofs.RelocationLemmas.{counted}
 use Rattle.obj_write.proofs.TableLemmas.{length_heads}
 
@@ -86,12 +87,20 @@ part_count unit = unit.sections.ok.0 ∙ sym (length-map unit.sections.items sec
 
 -- ---- sections of the unit
 
-pub no_parts : (unit : UnitValue) (s : Sections) → AreSections [] s → AreSections (each_below (part_section unit) 0) s
-no_parts unit s is = subst (λ (l : List FileSection). AreSections l s) (sym (each_below_zero (part_section unit))) is
+-- the section of this index
+abbrev pub part_of : UnitValue → ℕ → FileSection
+part_of unit i = part_section unit i (get_or unit.sections i no_part)
+
+pub parts_each : (unit : UnitValue) → part_sections unit ≡ each_below (part_of unit) (length unit.sections)
+unfolding part_sections
+parts_each unit = each_numbered (part_section unit) unit.sections no_part
+
+pub no_parts : (unit : UnitValue) (s : Sections) → AreSections [] s → AreSections (each_below (part_of unit) 0) s
+no_parts unit s is = subst (λ (l : List FileSection). AreSections l s) (sym (each_below_zero (part_of unit))) is
 
 part_is : (unit : AsmUnit) (i name : ℕ) (x : AsmSection) → i < length unit.sections.items → x ≡ get_or unit.sections.items i x
     → name ≡ name_at (object_section_names (unit_of unit)) i
-    → let value : FileSection = record { head = part_head (section_value x) name; content = x.bytes.items } in value ≡ part_section (unit_of unit) i
+    → let value : FileSection = record { head = part_head (section_value x) name; content = x.bytes.items } in value ≡ part_of (unit_of unit) i
 unfolding part_section
 part_is unit i name x lt is at =
     let v : ℕ → SectionValue → FileSection = λ n s. record { head = part_head s n; content = s.bytes } in
@@ -105,24 +114,38 @@ pub part_added : (unit : AsmUnit) (names : Strings) (i name : ℕ) (head : Head)
     → ((list : List (List ℕ)) → IsTableOf list names → i < length list → name ≡ name_at list i)
     → head ≡ part_head (section_value x) name
     → ((sections : List FileSection) → AreSections sections old → AreSections (sections ++ record { head = head; content = content } ∷ []) new)
-    → AreSections (each_below (part_section (unit_of unit)) i) old → AreSections (each_below (part_section (unit_of unit)) (i + 1)) new
+    → AreSections (each_below (part_of (unit_of unit)) i) old → AreSections (each_below (part_of (unit_of unit)) (i + 1)) new
 part_added unit names i name head x items content old new lt is all held table place made added so_far =
     let n = length-map unit.sections.items section_value in
     let m : length items ≡ length unit.sections.items = ap length all in
     let at : name ≡ name_at (object_section_names (unit_of unit)) i = section_name_at (unit_of unit) names i i name table place refl (omega (arith, n, m)) in
     let there : x ≡ get_or unit.sections.items i x = is ∙ ap (λ (l : List AsmSection). get_or l i x) all in
-    let done : List FileSection = each_below (part_section (unit_of unit)) i in
+    let done : List FileSection = each_below (part_of (unit_of unit)) i in
     subst (λ (l : List FileSection). AreSections l new)
     (ap (λ (h : Head). done ++ record { head = h; content = content } ∷ []) made
     ∙ (ap (λ (c : List ℕ). done ++ record { head = part_head (section_value x) name; content = c } ∷ []) held
-    ∙ (ap (λ (s : FileSection). done ++ s ∷ []) (part_is unit i name x (omega (arith, m)) there at) ∙ sym (each_below_more (part_section (unit_of unit)) i))))
+    ∙ (ap (λ (s : FileSection). done ++ s ∷ []) (part_is unit i name x (omega (arith, m)) there at) ∙ sym (each_below_more (part_of (unit_of unit)) i))))
     (added done so_far)
+
+-- all of them
+pub parts_whole : (unit : AsmUnit) (s : Sections) (n : ℕ) → n ≡ length unit.sections.items → AreSections (each_below (part_of (unit_of unit)) n) s → AreSections (part_sections (unit_of unit)) s
+parts_whole unit s n all is =
+    subst (λ (l : List FileSection). AreSections l s)
+    (ap (each_below (part_of (unit_of unit))) (all ∙ sym (length-map unit.sections.items section_value)) ∙ sym (parts_each (unit_of unit))) is
 
 -- ---- relocations
 
-pub no_relocations : (unit : UnitValue) (s : Sections) (done : List FileSection) → AreSections done s → AreSections (done ++ each_below (relocation_section unit) 0) s
+-- the relocations of this index
+abbrev pub table_of : UnitValue → ℕ → FileSection
+table_of unit j = relocation_section unit j (get_or (relocated_in unit) j 0)
+
+pub tables_each : (unit : UnitValue) → relocation_sections unit ≡ each_below (table_of unit) (length (relocated_in unit))
+unfolding relocation_sections
+tables_each unit = each_numbered (relocation_section unit) (relocated_in unit) 0
+
+pub no_relocations : (unit : UnitValue) (s : Sections) (done : List FileSection) → AreSections done s → AreSections (done ++ each_below (table_of unit) 0) s
 no_relocations unit s done is =
-    subst (λ (l : List FileSection). AreSections l s) (sym (ap (λ l. done ++ l) (each_below_zero (relocation_section unit)) ∙ append-nil done)) is
+    subst (λ (l : List FileSection). AreSections l s) (sym (ap (λ l. done ++ l) (each_below_zero (table_of unit)) ∙ append-nil done)) is
 
 pub relocations_within : {T : Type 0} (items : T → List ℕ) (unit : AsmUnit) (ts : List T) (list : List ℕ) (j d : ℕ)
     → list ≡ relocated_in (unit_of unit)
@@ -137,7 +160,7 @@ relocations_within items unit ts list j d is tables lt =
 relocation_is : (unit : UnitValue) (j name section : ℕ) (content : List ℕ)
     → name ≡ name_at (object_section_names unit) (length unit.sections + 3 + j)
     → section ≡ get_or (relocated_in unit) j 0 → content ≡ relocation_table unit.relocations section
-    → let value : FileSection = record { head = relocations_head name (length content) (symtab_index unit) section; content = content } in value ≡ relocation_section unit j
+    → let value : FileSection = record { head = relocations_head name (length content) (symtab_index unit) section; content = content } in value ≡ table_of unit j
 unfolding relocation_section
 relocation_is unit j name section content at is held =
     let v : ℕ → List ℕ → ℕ → FileSection = λ n c s. record { head = relocations_head n (length c) (symtab_index unit) s; content = c } in
@@ -161,17 +184,22 @@ pub relocation_added : (unit : UnitValue) (names : Strings) (j index name sectio
     → size ≡ length content → symbols ≡ symtab_index unit
     → head ≡ relocations_head name size symbols section
     → ((sections : List FileSection) → AreSections sections old → AreSections (sections ++ record { head = head; content = content } ∷ []) new)
-    → AreSections (done ++ each_below (relocation_section unit) j) old → AreSections (done ++ each_below (relocation_section unit) (j + 1)) new
+    → AreSections (done ++ each_below (table_of unit) j) old → AreSections (done ++ each_below (table_of unit) (j + 1)) new
 relocation_added unit names j index name section size symbols content head old new done lt table place same is held sized of made added so_far =
     let at : name ≡ name_at (object_section_names unit) (length unit.sections + 3 + j) = section_name_at unit names (length unit.sections + 3 + j) index name table place same (omega arith) in
-    let before : List FileSection = each_below (relocation_section unit) j in
+    let before : List FileSection = each_below (table_of unit) j in
     let whole : head ≡ relocations_head name (length content) (symtab_index unit) section
     = made ∙ (ap (λ n. relocations_head name n symbols section) sized ∙ ap (λ n. relocations_head name (length content) n section) of) in
     subst (λ (l : List FileSection). AreSections l new)
     (ap (λ (h : Head). (done ++ before) ++ record { head = h; content = content } ∷ []) whole
     ∙ (ap (λ (s : FileSection). (done ++ before) ++ s ∷ []) (relocation_is unit j name section content at is held)
-    ∙ (append_assoc done before (relocation_section unit j ∷ []) ∙ ap (λ l. done ++ l) (sym (each_below_more (relocation_section unit) j)))))
+    ∙ (append_assoc done before (table_of unit j ∷ []) ∙ ap (λ l. done ++ l) (sym (each_below_more (table_of unit) j)))))
     (added (done ++ before) so_far)
+
+-- all of them
+pub tables_whole : (unit : UnitValue) (s : Sections) (done : List FileSection) (n : ℕ) → n ≡ length (relocated_in unit) → AreSections (done ++ each_below (table_of unit) n) s → AreSections (done ++ relocation_sections unit) s
+tables_whole unit s done n all is =
+    subst (λ (l : List FileSection). AreSections (done ++ l) s) (ap (each_below (table_of unit)) all ∙ sym (tables_each unit)) is
 
 -- ---- the three tables
 

@@ -14,36 +14,46 @@ use Rattle.obj_write.specs.Strings.{terminated, string_table, name_at}
 use Rattle.obj_write.specs.Sections.{FileSection}
 use Rattle.obj_write.specs.Symbols.{symbol_entry, symbol_entry_at, symbol_names, symbol_table_bytes}
 use Rattle.obj_write.specs.Relocations.{relocation_entry, relocations_in, relocation_table}
-use Rattle.obj_write.specs.Object.{relocated_in, part_section, symtab_section, strtab_section, shstrtab_section, table_sections, relocation_section, file_sections}
+use Rattle.obj_write.specs.Object.{relocated_in, symtab_section, strtab_section, shstrtab_section, table_sections, relocation_sections, file_sections}
 use Rattle.obj_write.proofs.ReadLemmas.{length_below}
 use Rattle.obj_write.proofs.RelocationLemmas.{length_entry}
 use Rattle.obj_write.proofs.TableLemmas.{no_section}
+use Rattle.obj_write.proofs.ObjectLemmas.{part_of, parts_each, table_of, tables_each}
 use Rattle.obj_write.proofs.SymbolLemmas.{entry_at, entries_below}
 
 -- ---- where each section is in the list
 
-pub length_sections : (unit : UnitValue) → length (file_sections unit) ≡ length unit.sections + (3 + length (relocated_in unit))
+-- by their indexes
+pub sections_each : (unit : UnitValue)
+    → file_sections unit ≡ each_below (part_of unit) (length unit.sections) ++ (table_sections unit ++ each_below (table_of unit) (length (relocated_in unit)))
 unfolding file_sections
-length_sections unit =
-    let a = length-append (each_below (part_section unit) (length unit.sections)) (table_sections unit ++ each_below (relocation_section unit) (length (relocated_in unit))) in
-    let b = length-append (table_sections unit) (each_below (relocation_section unit) (length (relocated_in unit))) in
-    let c = length_each_below (part_section unit) (length unit.sections) in
-    let d = length_each_below (relocation_section unit) (length (relocated_in unit)) in
-    omega (arith, a, b, c, d)
+sections_each unit =
+    ap (λ l. l ++ (table_sections unit ++ relocation_sections unit)) (parts_each unit)
+    ∙ ap (λ l. each_below (part_of unit) (length unit.sections) ++ (table_sections unit ++ l)) (tables_each unit)
 
-pub part_at : (unit : UnitValue) (k : ℕ) → k < length unit.sections → get_or (file_sections unit) k no_section ≡ part_section unit k
-unfolding file_sections
+pub length_sections : (unit : UnitValue) → length (file_sections unit) ≡ length unit.sections + (3 + length (relocated_in unit))
+length_sections unit =
+    let e = ap length (sections_each unit) in
+    let a = length-append (each_below (part_of unit) (length unit.sections)) (table_sections unit ++ each_below (table_of unit) (length (relocated_in unit))) in
+    let b = length-append (table_sections unit) (each_below (table_of unit) (length (relocated_in unit))) in
+    let c = length_each_below (part_of unit) (length unit.sections) in
+    let d = length_each_below (table_of unit) (length (relocated_in unit)) in
+    omega (arith, e, a, b, c, d)
+
+pub part_at : (unit : UnitValue) (k : ℕ) → k < length unit.sections → get_or (file_sections unit) k no_section ≡ part_of unit k
 part_at unit k lt =
-    let c = length_each_below (part_section unit) (length unit.sections) in
-    get_or_append_left (each_below (part_section unit) (length unit.sections)) _ no_section k (omega (arith, c)) ∙ at_each (part_section unit) (length unit.sections) k no_section lt
+    let c = length_each_below (part_of unit) (length unit.sections) in
+    let others : List FileSection = table_sections unit ++ each_below (table_of unit) (length (relocated_in unit)) in
+    ap (λ (l : List FileSection). get_or l k no_section) (sections_each unit)
+    ∙ (get_or_append_left (each_below (part_of unit) (length unit.sections)) others no_section k (omega (arith, c)) ∙ at_each (part_of unit) (length unit.sections) k no_section lt)
 
 after_parts : (unit : UnitValue) (j : ℕ) → get_or (file_sections unit) (length unit.sections + j) no_section
-    ≡ get_or (table_sections unit ++ each_below (relocation_section unit) (length (relocated_in unit))) j no_section
-unfolding file_sections
+    ≡ get_or (table_sections unit ++ each_below (table_of unit) (length (relocated_in unit))) j no_section
 after_parts unit j =
-    let parts : List FileSection = each_below (part_section unit) (length unit.sections) in
-    let others : List FileSection = table_sections unit ++ each_below (relocation_section unit) (length (relocated_in unit)) in
-    ap (λ (n : ℕ). get_or (parts ++ others) (n + j) no_section) (sym (length_each_below (part_section unit) (length unit.sections))) ∙ get_or-append-add parts others j no_section
+    let parts : List FileSection = each_below (part_of unit) (length unit.sections) in
+    let others : List FileSection = table_sections unit ++ each_below (table_of unit) (length (relocated_in unit)) in
+    ap (λ (l : List FileSection). get_or l (length unit.sections + j) no_section) (sections_each unit)
+    ∙ (ap (λ (n : ℕ). get_or (parts ++ others) (n + j) no_section) (sym (length_each_below (part_of unit) (length unit.sections))) ∙ get_or-append-add parts others j no_section)
 
 pub symtab_at : (unit : UnitValue) → get_or (file_sections unit) (length unit.sections + 0) no_section ≡ symtab_section unit
 symtab_at unit = after_parts unit 0
@@ -54,10 +64,10 @@ strtab_at unit = after_parts unit 1
 pub shstrtab_at : (unit : UnitValue) → get_or (file_sections unit) (length unit.sections + 2) no_section ≡ shstrtab_section unit
 shstrtab_at unit = after_parts unit 2
 
-pub relocations_at : (unit : UnitValue) (j : ℕ) → j < length (relocated_in unit) → get_or (file_sections unit) (length unit.sections + (3 + j)) no_section ≡ relocation_section unit j
+pub relocations_at : (unit : UnitValue) (j : ℕ) → j < length (relocated_in unit) → get_or (file_sections unit) (length unit.sections + (3 + j)) no_section ≡ table_of unit j
 relocations_at unit j lt =
-    after_parts unit (3 + j) ∙ (get_or-append-add (table_sections unit) (each_below (relocation_section unit) (length (relocated_in unit))) j no_section
-    ∙ at_each (relocation_section unit) (length (relocated_in unit)) j no_section lt)
+    after_parts unit (3 + j) ∙ (get_or-append-add (table_sections unit) (each_below (table_of unit) (length (relocated_in unit))) j no_section
+    ∙ at_each (table_of unit) (length (relocated_in unit)) j no_section lt)
 
 -- what holds of each kind of section holds of all
 pub at_all : (P : ℕ → Type 0) (unit : UnitValue) → ((k : ℕ) → k < length unit.sections → P k) → P (length unit.sections + 0) → P (length unit.sections + 1) → P (length unit.sections + 2)

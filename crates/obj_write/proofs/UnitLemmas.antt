@@ -16,17 +16,17 @@ use Rattle.obj_write.specs.Relocations.{relocation_table}
 use Rattle.obj_write.specs.Object.{no_part, part_head, symbols_head, strings_head, relocations_head, symtab_index, relocated_in, object_section_names, part_section, symtab_section, strtab_section, shstrtab_section, table_sections, relocation_section, file_sections}
 use Rattle.obj_write.proofs.PassLemmas.{flat_map_each}
 use Rattle.obj_write.proofs.FileLemmas.{table_place}
-use Rattle.obj_write.proofs.ObjectLemmas.{length_names, relocated_few}
-use Rattle.obj_write.proofs.SizeLemmas.{padded_few, below_few, table_few, relocations_few, length_symbols}
+use Rattle.obj_write.proofs.ObjectLemmas.{length_names, relocated_few, part_of, table_of}
+use Rattle.obj_write.proofs.SizeLemmas.{sections_each, padded_few, below_few, table_few, relocations_few, length_symbols}
 use Rattle.obj_write.proofs.NameLemmas.{IsString, symbol_strings, section_strings}
 
 -- ---- what each section is
 
-pub part_content : (unit : UnitValue) (k : ℕ) → (part_section unit k).content ≡ (get_or unit.sections k no_part).bytes
+pub part_content : (unit : UnitValue) (k : ℕ) → (part_of unit k).content ≡ (get_or unit.sections k no_part).bytes
 unfolding part_section
 part_content unit k = refl
 
-pub part_header : (unit : UnitValue) (k : ℕ) → (part_section unit k).head ≡ part_head (get_or unit.sections k no_part) (name_at (object_section_names unit) k)
+pub part_header : (unit : UnitValue) (k : ℕ) → (part_of unit k).head ≡ part_head (get_or unit.sections k no_part) (name_at (object_section_names unit) k)
 unfolding part_section
 part_header unit k = refl
 
@@ -47,8 +47,8 @@ abbrev pub target_of : UnitValue → ℕ → ℕ
 target_of unit j = get_or (relocated_in unit) j 0
 
 pub relocation_parts : (unit : UnitValue) (j : ℕ)
-    → ((relocation_section unit j).head ≡ relocations_head (name_at (object_section_names unit) (length unit.sections + 3 + j)) (length (relocation_table unit.relocations (target_of unit j))) (symtab_index unit) (target_of unit j))
-    × ((relocation_section unit j).content ≡ relocation_table unit.relocations (target_of unit j))
+    → ((table_of unit j).head ≡ relocations_head (name_at (object_section_names unit) (length unit.sections + 3 + j)) (length (relocation_table unit.relocations (target_of unit j))) (symtab_index unit) (target_of unit j))
+    × ((table_of unit j).content ≡ relocation_table unit.relocations (target_of unit j))
 unfolding relocation_section
 relocation_parts unit j = (refl, refl)
 
@@ -58,21 +58,21 @@ kept_few : (k : SectionKind) (size : ℕ) → kept_size k size ≤ size
 kept_few Code size = omega arith
 kept_few _ size = omega arith
 
-part_few : (unit : UnitValue) → IsUnit unit → (k : ℕ) → k < length unit.sections → length (padded_bytes (part_section unit k).content) ≤ 65537
+part_few : (unit : UnitValue) → IsUnit unit → (k : ℕ) → k < length unit.sections → length (padded_bytes (part_of unit k).content) ≤ 65537
 part_few unit is k lt =
     let h = All-get_or IsSectionValue unit.sections k no_part lt is.sections_kept in
     let a = h.small in
     let b = h.filled in
     let c = kept_few (get_or unit.sections k no_part).kind (get_or unit.sections k no_part).size in
-    let d = padded_few (part_section unit k).content in
+    let d = padded_few (part_of unit k).content in
     let e = ap length (part_content unit k) in
     omega (arith, a, b, c, d, e)
 
-relocation_few : (unit : UnitValue) → IsUnit unit → (j : ℕ) → length (padded_bytes (relocation_section unit j).content) ≤ 12582915
+relocation_few : (unit : UnitValue) → IsUnit unit → (j : ℕ) → length (padded_bytes (table_of unit j).content) ≤ 12582915
 relocation_few unit is j =
     let a = relocations_few unit.relocations (target_of unit j) in
     let b = is.few_relocations in
-    let c = padded_few (relocation_section unit j).content in
+    let c = padded_few (table_of unit j).content in
     let d = ap length (relocation_parts unit j).1 in
     omega (arith, a, b, c, d)
 
@@ -130,20 +130,21 @@ few_tables unit is =
 
 -- the file has fewer than 2 ^ 32 bytes before its headers
 pub few_contents : (unit : UnitValue) → IsUnit unit → table_place (file_sections unit) < 2 ^ 32
-unfolding padded_contents file_sections
+unfolding padded_contents
 few_contents unit is =
     let f : FileSection → List ℕ = λ s. padded_bytes s.content in
-    let parts : List FileSection = each_below (part_section unit) (length unit.sections) in
-    let others : List FileSection = each_below (relocation_section unit) (length (relocated_in unit)) in
+    let parts : List FileSection = each_below (part_of unit) (length unit.sections) in
+    let others : List FileSection = each_below (table_of unit) (length (relocated_in unit)) in
+    let e = ap (λ l. length (flat_map f l)) (sections_each unit) in
     let e₁ = ap length (flat_map-append f parts (table_sections unit ++ others)) in
     let e₂ = length-append (flat_map f parts) (flat_map f (table_sections unit ++ others)) in
     let e₃ = ap length (flat_map-append f (table_sections unit) others) in
     let e₄ = length-append (flat_map f (table_sections unit)) (flat_map f others) in
-    let p = ap length (flat_map_each f (part_section unit) (length unit.sections)) in
-    let p' = below_few (λ k. f (part_section unit k)) 65537 (length unit.sections) (λ k lt. part_few unit is k lt) in
-    let r = ap length (flat_map_each f (relocation_section unit) (length (relocated_in unit))) in
-    let r' = below_few (λ j. f (relocation_section unit j)) 12582915 (length (relocated_in unit)) (λ j lt. relocation_few unit is j) in
+    let p = ap length (flat_map_each f (part_of unit) (length unit.sections)) in
+    let p' = below_few (λ k. f (part_of unit k)) 65537 (length unit.sections) (λ k lt. part_few unit is k lt) in
+    let r = ap length (flat_map_each f (table_of unit) (length (relocated_in unit))) in
+    let r' = below_few (λ j. f (table_of unit j)) 12582915 (length (relocated_in unit)) (λ j lt. relocation_few unit is j) in
     let n = is.few_sections in
     let m = relocated_few unit.relocations (length unit.sections) in
     let t = few_tables unit is in
-    omega (arith, e₁, e₂, e₃, e₄, p, p', r, r', n, m, t)
+    omega (arith, e, e₁, e₂, e₃, e₄, p, p', r, r', n, m, t)

@@ -1,7 +1,7 @@
 -- The file of a unit (TIS ELF 1.2).
 use Rattle.std.specs.Prelude.{ℕ, ◌+◌, List, [], ◌∷◌, ◌++◌, length, map, slice_index_or, codes, replicate}
+use Rattle.std.specs.List.{enumerate_from}
 use Rattle.elf_objects.specs.Numbers.{file_header_size, relocatable, msp430, current_version, class_32, low_byte_first, section_header_size, progbits, symtab, strtab, rela, nobits, write_flag, alloc_flag, execute_flag, symbol_size, relocation_size}
-use Rattle.elf_objects.specs.Passes.{each_below}
 use Rattle.asm_text.specs.declared.unit.SectionKind.{SectionKind}
 use Rattle.asm_text.specs.declared.unit.SectionKind.TheVariants.{Code, Data, Bss}
 use Rattle.asm_text.specs.Parts.{SectionValue, UnitValue}
@@ -59,9 +59,11 @@ abbrev pub part_head : SectionValue → ℕ → Head
 part_head s name = record { name = name; kind = section_type s.kind; flags = section_flags s.kind; offset = 0; size = s.size; link = 0; info = 0; align = section_align; entry_size = 0 }
 
 -- the unit's section of this index
-unfoldable pub part_section : UnitValue → ℕ → FileSection
-part_section unit i = let s = slice_index_or unit.sections i no_part in
-    record { head = part_head s (name_at (object_section_names unit) i); content = s.bytes }
+unfoldable pub part_section : UnitValue → ℕ → SectionValue → FileSection
+part_section unit i s = record { head = part_head s (name_at (object_section_names unit) i); content = s.bytes }
+
+unfoldable pub part_sections : UnitValue → List FileSection
+part_sections unit = map (λ (p : ℕ × SectionValue). part_section unit p.0 p.1) (enumerate_from 0 unit.sections)
 
 -- the indexes of the tables, counted from section 0
 abbrev pub symtab_index : UnitValue → ℕ
@@ -100,19 +102,20 @@ unfoldable pub shstrtab_section : UnitValue → FileSection
 shstrtab_section unit = let content = string_table (object_section_names unit) in
     record { head = strings_head (name_at (object_section_names unit) (length unit.sections + 2)) (length content); content = content }
 
--- the relocations of this index among the sections that have some
-unfoldable pub relocation_section : UnitValue → ℕ → FileSection
-relocation_section unit j = let section = slice_index_or (relocated_in unit) j 0 in let content = relocation_table unit.relocations section in
+-- the relocations of a section, which has this index among those that have some
+unfoldable pub relocation_section : UnitValue → ℕ → ℕ → FileSection
+relocation_section unit j section = let content = relocation_table unit.relocations section in
     record { head = relocations_head (name_at (object_section_names unit) (length unit.sections + 3 + j)) (length content) (symtab_index unit) section; content = content }
+
+unfoldable pub relocation_sections : UnitValue → List FileSection
+relocation_sections unit = map (λ (p : ℕ × ℕ). relocation_section unit p.0 p.1) (enumerate_from 0 (relocated_in unit))
 
 abbrev pub table_sections : UnitValue → List FileSection
 table_sections unit = symtab_section unit ∷ strtab_section unit ∷ shstrtab_section unit ∷ []
 
 -- all sections after section 0, in their order
 unfoldable pub file_sections : UnitValue → List FileSection
-file_sections unit =
-    each_below (part_section unit) (length unit.sections)
-    ++ (table_sections unit ++ each_below (relocation_section unit) (length (relocated_in unit)))
+file_sections unit = part_sections unit ++ (table_sections unit ++ relocation_sections unit)
 
 -- ---- the file
 

@@ -10,7 +10,7 @@ ghost use Rattle.obj_write.specs.Sections.{FileSection};
 ghost use Rattle.obj_write.specs.internal.Sections.{AreSections};
 ghost use Rattle.obj_write.specs.Symbols.{symbol_names, symbol_table_bytes};
 ghost use Rattle.obj_write.specs.Relocations.{relocation_table};
-ghost use Rattle.obj_write.specs.Object.{section_type, section_flags, part_names, table_names, part_head, symbols_head, strings_head, relocations_head, relocation_name, relocated_in, object_section_names, part_section, table_sections, relocation_section, file_sections, file_header, file_bytes, object_of};
+ghost use Rattle.obj_write.specs.Object.{section_type, section_flags, part_names, table_names, part_head, symbols_head, strings_head, relocations_head, relocation_name, relocated_in, object_section_names, part_sections, table_sections, relocation_sections, file_sections, file_header, file_bytes, object_of};
 ghost use Rattle.obj_write.specs.Reader.{IsObjectOf};
 
 use crate::bytes::{put_half, put_word};
@@ -139,8 +139,7 @@ fn part_head(section: &AsmSection, name: usize) -> Head
 // The sections of the unit.
 fn parts_of(alloc: Global, unit: &AsmUnit, names: &Strings) -> Result<Sections, AllocError>
     requires { IsTableOf (object_section_names (unit_of unit.now)) names.now }
-    ensures { IfOk result
-        (AreSections (each_below (part_section (unit_of unit.now)) (length (unit_of unit.now).sections))) }
+    ensures { IfOk result (AreSections (part_sections (unit_of unit.now))) }
 {
     let mut sections = Sections::new(alloc);
     for (i, section) in unit.sections.iter().enumerate() {
@@ -238,8 +237,7 @@ fn add_relocations(
     requires tables { map (λ t. t.items) tables.now ≡ each_below (relocation_table (unit_of unit.now).relocations)
         (length (unit_of unit.now).sections) }
     ensures { OnOk result ((done : List FileSection) → AreSections done sections.old →
-        AreSections (done ++ each_below (relocation_section (unit_of unit.now))
-        (length (relocated_in (unit_of unit.now)))) sections.new) }
+        AreSections (done ++ relocation_sections (unit_of unit.now)) sections.new) }
 {
     let count = unit.sections.len();
     for (j, i) in relocated.iter().enumerate() {

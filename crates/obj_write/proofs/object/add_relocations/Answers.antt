@@ -2,7 +2,7 @@ use Rattle.std.proofs.Common.{◌≡◌, ◌+◌, ◌∙◌, ap, sym, get_or, le
 use Rattle.asm_text.specs.Unit.{unit_of}
 use Rattle.asm_text.specs.Views.{section_value}
 use Rattle.obj_write.specs.Relocations.{relocation_table}
-use Rattle.obj_write.proofs.ObjectLemmas.{no_relocations, relocations_within, relocation_added, section_small, table_at, part_count}
+use Rattle.obj_write.proofs.ObjectLemmas.{no_relocations, relocations_within, relocation_added, tables_whole, section_small, table_at, part_count}
 use Rattle.obj_write.proofs.object.add_relocations.Goals as goal
 
 pub loop-j-init : goal.loop-j-init
@@ -31,3 +31,6 @@ loop-j-preserved c = λ done is.
     (c.deref.ensures.value ∙ table_at (λ t. t.items) c.args.tables.now c.index-tables-i.result (relocation_table c.args.unit.now.relocations.items) (length (map section_value c.args.unit.now.sections.items)) section there c.index-tables-i.is c.requires.tables)
     (c.len.ensures ∙ (c.index-tables-i.result.ok.0 ∙ sym (ap length c.deref.ensures.value)))
     (ap (λ n. n + 1) count) c.relocations_head-head.ensures c.in_ok-add.ensures (c.loop-j.invariant done is)
+
+pub returns : goal.returns
+returns c = λ done is. let e = ap length c.requires.relocated in tables_whole (unit_of c.args.unit.now) c.loop-j.sections done c.loop-j.j (omega (arith, e)) (c.loop-j.invariant done is)
