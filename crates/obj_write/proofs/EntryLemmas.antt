@@ -30,7 +30,8 @@ use Rattle.obj_write.specs.Sections.{FileSection, content_at}
 use Rattle.obj_write.specs.Symbols.{info_of, home_index, symbol_entry, symbol_entry_at, symbol_names}
 use Rattle.obj_write.specs.Symbols as own
 use Rattle.obj_write.specs.Relocations.{relocation_entry, relocation_table, relocations_in}
-use Rattle.obj_write.specs.Object.{no_part, section_type, symbols_head, strings_head, relocations_head, symtab_index, shstrtab_index, relocated_in, object_section_names, file_sections, object_of}
+use Rattle.obj_write.specs.internal.Object.{no_part}
+use Rattle.obj_write.specs.Object.{section_type, symbols_head, strings_head, relocations_head, symtab_index, shstrtab_index, relocated_in, object_section_names, file_sections, object_of}
 use Rattle.obj_write.proofs.ReadLemmas.{Stands, stands_left, stands_right, stands_below, stands_each, length_below, word_read, word_low, half_read, byte_read, header}
 use Rattle.obj_write.proofs.FileLemmas.{nothing_below, no_head}
 use Rattle.obj_write.proofs.TableLemmas.{no_section}

@@ -14,7 +14,8 @@ use Rattle.asm_text.specs.declared.unit.SectionKind.TheVariants.{Code, Data, Bss
 use Rattle.asm_text.specs.Parts.{SectionValue, UnitValue, IsUnit, IsSectionValue, kept_size}
 use Rattle.obj_write.specs.Strings.{string_table, name_at}
 use Rattle.obj_write.specs.Sections.{FileSection, content_at}
-use Rattle.obj_write.specs.Object.{no_part, section_type, section_flags, strings_head, relocated_in, object_section_names, file_sections, shstrtab_index, object_of}
+use Rattle.obj_write.specs.internal.Object.{no_part}
+use Rattle.obj_write.specs.Object.{section_type, section_flags, strings_head, relocated_in, object_section_names, file_sections, shstrtab_index, object_of}
 use Rattle.obj_write.proofs.ReadLemmas.{Stands, header}
 use Rattle.obj_write.proofs.FileLemmas.{nothing_below, no_head}
 use Rattle.obj_write.proofs.ObjectLemmas.{length_names}

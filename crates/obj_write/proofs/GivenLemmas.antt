@@ -27,7 +27,8 @@ use Rattle.obj_write.specs.Bytes.{long_bytes}
 use Rattle.obj_write.specs.Strings.{string_table}
 use Rattle.obj_write.specs.Symbols.{info_of, home_index, symbol_names}
 use Rattle.obj_write.specs.Relocations.{relocation_entry, relocations_in}
-use Rattle.obj_write.specs.Object.{no_part, section_type, section_flags, relocated_in, object_of}
+use Rattle.obj_write.specs.internal.Object.{no_part}
+use Rattle.obj_write.specs.Object.{section_type, section_flags, relocated_in, object_of}
 use Rattle.obj_write.specs.Reader.{IsPartRead, IsSymbolOf, binding_read, home_read, relocation_read, table_read, IsObjectOf}
 use Rattle.obj_write.proofs.PassLemmas.{each_below_same, each_numbered, all_numbered}
 use Rattle.obj_write.proofs.ReadLemmas.{Stands, stands_left, stands_right, word_read, word_low, header}

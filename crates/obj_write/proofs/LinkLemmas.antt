@@ -16,7 +16,8 @@ use Rattle.asm_text.specs.declared.unit.SectionKind.TheVariants.{Code}
 use Rattle.asm_text.specs.Parts.{UnitValue, IsUnit}
 use Rattle.obj_write.specs.Symbols as own
 use Rattle.obj_write.specs.Relocations.{relocation_table}
-use Rattle.obj_write.specs.Object.{no_part, section_type, symtab_index, strtab_index, relocated_in, object_of}
+use Rattle.obj_write.specs.internal.Object.{no_part}
+use Rattle.obj_write.specs.Object.{section_type, symtab_index, strtab_index, relocated_in, object_of}
 use Rattle.obj_write.proofs.ReadLemmas.{header}
 use Rattle.obj_write.proofs.FileLemmas.{nothing_below, no_head}
 use Rattle.obj_write.proofs.SizeLemmas.{length_relocations, length_symbols}

@@ -5,7 +5,7 @@ use Rattle.std.specs.List.{flat_map, All, list_all, position_from}
 use Rattle.std.proofs.lemmas.Bool.Decides.{nat_tests}
 use Rattle.std.proofs.lemmas.List.{take_at, take-append-drop, drop_at, drop_more}
 use Rattle.std.proofs.lemmas.List.Concat.{flat_map-append}
-use Rattle.std.proofs.lemmas.List.Elements.{All-nil, All-cons, All-get_or, All-append, All-map, All-weaker}
+use Rattle.std.proofs.lemmas.List.Elements.{All-nil, All-cons, All-get_or, All-append, All-map, All-same, All-weaker}
 use Rattle.std.proofs.lemmas.Bool.{and_from, and_parts}
 use Rattle.elf_objects.specs.declared.section.Header.{Header}
 use Rattle.elf_objects.specs.Section.{content}
@@ -13,9 +13,10 @@ use Rattle.elf_objects.specs.Names.{end_in}
 use Rattle.asm_text.specs.Parts.{SectionValue, SymbolValue, UnitValue, IsUnit, IsSectionValue, IsSymbolValue, is_name, is_name_byte, is_digit}
 use Rattle.obj_write.specs.Strings.{terminated, string_table, name_at}
 use Rattle.obj_write.specs.Symbols.{symbol_names}
-use Rattle.obj_write.specs.Object.{no_part, table_names, part_names, relocation_name, relocated_in, object_section_names}
+use Rattle.obj_write.specs.internal.Object.{no_part, relocation_name_at}
+use Rattle.obj_write.specs.Object.{table_names, part_names, relocation_names, relocated_in, object_section_names}
 use Rattle.obj_write.proofs.ReadLemmas.{Stands, stands_drop}
-use Rattle.obj_write.proofs.ObjectLemmas.{relocated_within}
+use Rattle.obj_write.proofs.ObjectLemmas.{relocated_within, relocation_names_are}
 
 -- no byte of it ends a string
 pub record IsString (most : ℕ) (name : List ℕ) : Type 0 where
@@ -100,7 +101,7 @@ table_strings =
     All-cons (IsString 69) (codes ".symtab") (codes ".strtab" ∷ codes ".shstrtab" ∷ []) a
     (All-cons (IsString 69) (codes ".strtab") (codes ".shstrtab" ∷ []) b (All-cons (IsString 69) (codes ".shstrtab") [] c (All-nil (IsString 69))))
 
-relocation_string : (unit : UnitValue) → IsUnit unit → (i : ℕ) → i < length unit.sections → IsString 69 (relocation_name unit.sections i)
+relocation_string : (unit : UnitValue) → IsUnit unit → (i : ℕ) → i < length unit.sections → IsString 69 (relocation_name_at unit.sections i)
 relocation_string unit is i lt =
     let h = All-get_or IsSectionValue unit.sections i no_part lt is.sections_kept in
     let n = name_is (get_or unit.sections i no_part).name h.named in
@@ -110,7 +111,8 @@ relocation_string unit is i lt =
 pub section_strings : (unit : UnitValue) → IsUnit unit → All (IsString 69) (object_section_names unit)
 unfolding object_section_names
 section_strings unit is =
-    All-append (IsString 69) (part_names unit.sections) (table_names ++ map (relocation_name unit.sections) (relocated_in unit)) (part_strings unit is)
-    (All-append (IsString 69) table_names (map (relocation_name unit.sections) (relocated_in unit)) table_strings
-    (All-map (IsString 69) (relocation_name unit.sections) (relocated_in unit)
-    (All-weaker (λ i. i < length unit.sections) (λ i. IsString 69 (relocation_name unit.sections i)) (λ i lt. relocation_string unit is i lt) (relocated_in unit) (relocated_within unit.relocations (length unit.sections)))))
+    All-append (IsString 69) (part_names unit.sections) (table_names ++ relocation_names unit) (part_strings unit is)
+    (All-append (IsString 69) table_names (relocation_names unit) table_strings
+    (All-same (IsString 69) (relocation_names unit) (map (relocation_name_at unit.sections) (relocated_in unit)) (relocation_names_are unit)
+    (All-map (IsString 69) (relocation_name_at unit.sections) (relocated_in unit)
+    (All-weaker (λ i. i < length unit.sections) (λ i. IsString 69 (relocation_name_at unit.sections i)) (λ i lt. relocation_string unit is i lt) (relocated_in unit) (relocated_within unit.relocations (length unit.sections))))))

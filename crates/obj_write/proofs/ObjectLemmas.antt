@@ -1,7 +1,7 @@
 -- The sections of a unit's file, one after the other.
 use Rattle.std.proofs.Common.{◌≡◌, ℕ, zero, suc, ◌+◌, ◌<◌, ◌≤◌, List, [], ◌∷◌, ◌++◌, map, refl, ap, sym, subst, ◌∙◌, arith, append_assoc, length, get_or, length-append}
 use Rattle.std.specs.List.{All}
-use Rattle.std.proofs.lemmas.List.{get_or-map, append-nil, length-map}
+use Rattle.std.proofs.lemmas.List.{get_or-map, append-nil, length-map, map-append}
 use Rattle.std.proofs.lemmas.List.Elements.{All-nil, All-append, All-cons, All-weaker, All-same, All-get_or}
 use Rattle.elf_objects.specs.Passes.{each_below, all_below}
 use Rattle.elf_objects.proofs.PassLemmas.{each_below_more, each_below_zero, at_each}
@@ -20,22 +20,23 @@ use Rattle.obj_write.specs.internal.Strings.{IsTableOf}
 use Rattle.obj_write.specs.Sections.{FileSection, padded_contents, header_table}
 use Rattle.obj_write.specs.internal.Sections.{AreSections}
 use Rattle.obj_write.specs.Symbols.{symbol_table_bytes}
-use Rattle.obj_write.specs.Relocations.{relocations_in, relocation_table, index_where_some, relocated_sections}
-use Rattle.obj_write.specs.Object.{no_part, table_names, part_names, relocation_name, relocated_in, object_section_names, part_head, part_section, part_sections, relocations_head, symtab_index, relocation_section, relocation_sections, symbols_head, strings_head, symtab_section, file_header, file_bytes}
-use Rattle.obj_write.proofs.PassLemmas.{each_numbered}
+use Rattle.obj_write.specs.Relocations.{relocations_in, relocation_table, where_some, relocated_sections}
+use Rattle.obj_write.specs.internal.Object.{no_part, relocation_name_at}
+use Rattle.obj_write.specs.Object.{table_names, part_names, relocation_name, relocation_names, relocated_in, object_section_names, part_head, part_section, part_sections, relocations_head, symtab_index, relocation_section, relocation_sections, symbols_head, strings_head, symtab_section, file_header, file_bytes}
+use Rattle.obj_write.proofs.PassLemmas.{each_numbered, all_numbered}
 use Rattle.obj_write.proofs.RelocationLemmas.{counted}
 use Rattle.obj_write.proofs.TableLemmas.{length_heads}
 
 -- ---- the sections with relocations
 
-index_within : (rs : List AsmRelocation) (i n : ℕ) → i < n → All (λ k. k < n) (index_where_some rs i)
+index_within : (rs : List AsmRelocation) (i n : ℕ) → i < n → All (λ k. k < n) (where_some rs i)
 index_within [] i n lt = All-nil (λ k. k < n)
 index_within (r ∷ rs) i n lt = All-cons (λ k. k < n) i [] lt (All-nil (λ k. k < n))
 
 relocated_below : (rs : List AsmRelocation) (n m : ℕ) → n ≤ m → All (λ k. k < m) (relocated_sections rs n)
 unfolding relocated_sections all_below
 relocated_below rs zero m le = All-nil (λ k. k < m)
-relocated_below rs (suc n) m le = All-append (λ k. k < m) (relocated_sections rs n) (index_where_some (relocations_in rs n) n) (relocated_below rs n m (omega arith)) (index_within (relocations_in rs n) n m (omega arith))
+relocated_below rs (suc n) m le = All-append (λ k. k < m) (relocated_sections rs n) (where_some (relocations_in rs n) n) (relocated_below rs n m (omega arith)) (index_within (relocations_in rs n) n m (omega arith))
 
 -- they are sections of the unit
 pub relocated_within : (rs : List AsmRelocation) (n : ℕ) → All (λ k. k < n) (relocated_sections rs n)
@@ -49,7 +50,7 @@ these_within unit list is =
     (All-same (λ i. i < length (map section_value unit.sections.items)) list (relocated_in (unit_of unit)) is
     (relocated_within unit.relocations.items (length (map section_value unit.sections.items))))
 
-length_index : (rs : List AsmRelocation) (i : ℕ) → length (index_where_some rs i) ≤ 1
+length_index : (rs : List AsmRelocation) (i : ℕ) → length (where_some rs i) ≤ 1
 length_index [] i = omega arith
 length_index (r ∷ rs) i = omega arith
 
@@ -58,20 +59,54 @@ pub relocated_few : (rs : List AsmRelocation) (n : ℕ) → length (relocated_se
 unfolding relocated_sections all_below
 relocated_few rs zero = omega arith
 relocated_few rs (suc n) =
-    let a = length-append (relocated_sections rs n) (index_where_some (relocations_in rs n) n) in
+    let a = length-append (relocated_sections rs n) (where_some (relocations_in rs n) n) in
     let b = relocated_few rs n in
     let c = length_index (relocations_in rs n) n in
     omega (arith, a, b, c)
 
--- ---- how many names
+-- ---- names
 
+map_where : {A B : Type 0} (f : A → B) (rs : List AsmRelocation) (x : A) → map f (where_some rs x) ≡ where_some rs (f x)
+map_where f [] x = refl
+map_where f (r ∷ rs) x = refl
+
+names_below : (rs : List AsmRelocation) (f : ℕ → List ℕ) (n : ℕ) → all_below (λ i. where_some (relocations_in rs i) (f i)) n ≡ map f (relocated_sections rs n)
+unfolding relocated_sections all_below
+names_below rs f zero = refl
+names_below rs f (suc n) =
+    ap (λ l. l ++ where_some (relocations_in rs n) (f n)) (names_below rs f n)
+    ∙ (ap (λ l. map f (relocated_sections rs n) ++ l) (sym (map_where f (relocations_in rs n) n))
+    ∙ sym (map-append f (relocated_sections rs n) (where_some (relocations_in rs n) n)))
+
+-- by the indexes of their sections
+pub relocation_names_are : (unit : UnitValue) → relocation_names unit ≡ map (relocation_name_at unit.sections) (relocated_in unit)
+unfolding relocation_names
+relocation_names_are unit =
+    let f : ℕ → SectionValue → List (List ℕ) = λ i s. where_some (relocations_in unit.relocations i) (relocation_name s) in
+    all_numbered f unit.sections no_part ∙ names_below unit.relocations (relocation_name_at unit.sections) (length unit.sections)
+
+-- the names that were put are those of the sections
+pub names_whole : (unit : AsmUnit) (relocated : List ℕ) (parts again : List AsmSection) (strings : Strings) → parts ≡ unit.sections.items → again ≡ unit.sections.items → relocated ≡ relocated_in (unit_of unit)
+    → IsTableOf ((part_names (map section_value parts) ++ table_names) ++ map (relocation_name_at (map section_value again)) relocated) strings → IsTableOf (object_section_names (unit_of unit)) strings
+unfolding object_section_names
+names_whole unit relocated parts again strings p q r is =
+    let first : List (List ℕ) = part_names (map section_value unit.sections.items) in
+    subst (λ (l : List (List ℕ)). IsTableOf l strings)
+    (ap (λ (l : List AsmSection). (part_names (map section_value l) ++ table_names) ++ map (relocation_name_at (map section_value again)) relocated) p
+    ∙ (ap (λ (l : List AsmSection). (first ++ table_names) ++ map (relocation_name_at (map section_value l)) relocated) q
+    ∙ (ap (λ (l : List ℕ). (first ++ table_names) ++ map (relocation_name_at (map section_value unit.sections.items)) l) r
+    ∙ (ap (λ l. (first ++ table_names) ++ l) (sym (relocation_names_are (unit_of unit)))
+    ∙ append_assoc first table_names (relocation_names (unit_of unit))))))
+    is
+
+-- how many there are
 pub length_names : (unit : UnitValue) → length (object_section_names unit) ≡ length unit.sections + (3 + length (relocated_in unit))
 unfolding object_section_names
 length_names unit =
-    let a = length-append (part_names unit.sections) (table_names ++ map (relocation_name unit.sections) (relocated_in unit)) in
-    let b = length-append table_names (map (relocation_name unit.sections) (relocated_in unit)) in
+    let a = length-append (part_names unit.sections) (table_names ++ relocation_names unit) in
+    let b = length-append table_names (relocation_names unit) in
     let c = length-map unit.sections (λ (s : SectionValue). s.name) in
-    let d = length-map (relocated_in unit) (relocation_name unit.sections) in
+    let d = ap length (relocation_names_are unit) ∙ length-map (relocated_in unit) (relocation_name_at unit.sections) in
     omega (arith, a, b, c, d)
 
 -- the place of a name of a section

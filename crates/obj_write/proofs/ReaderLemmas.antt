@@ -1,5 +1,5 @@
 -- The object that is read of a unit's file is the unit's.
-use Rattle.std.proofs.Common.{◌≡◌, ℕ, suc, ◌+◌, ◌-◌, ◌<◌, List, [], ◌∷◌, ◌++◌, map, refl, ap, sym, subst, ◌∙◌, arith, length, take, drop, get_or, cond, eqb, ◌||◌, Some, not, unwrap_or}
+use Rattle.std.proofs.Common.{◌≡◌, ℕ, suc, ◌+◌, ◌-◌, ◌<◌, List, [], ◌∷◌, ◌++◌, refl, ap, sym, subst, ◌∙◌, arith, length, take, drop, get_or, cond, eqb, ◌||◌, Some, not, unwrap_or}
 use Rattle.std.specs.Prelude.{slice_range}
 use Rattle.std.specs.List.{flat_map, All, prefix_len}
 use Rattle.std.proofs.lemmas.List.{take_at, length-map, nil_from_length, get_or-map, get_or_append_left}
@@ -15,7 +15,8 @@ use Rattle.asm_text.specs.declared.unit.SectionKind.TheVariants.{Code, Data, Bss
 use Rattle.asm_text.specs.Parts.{SectionValue, UnitValue, IsUnit, IsSectionValue, kept_size}
 use Rattle.obj_write.specs.Strings.{terminated, string_table, name_at}
 use Rattle.obj_write.specs.Sections.{FileSection, content_at}
-use Rattle.obj_write.specs.Object.{no_part, section_type, strings_head, part_names, table_names, relocation_name, relocated_in, object_section_names, file_sections, shstrtab_index, object_of}
+use Rattle.obj_write.specs.internal.Object.{no_part}
+use Rattle.obj_write.specs.Object.{section_type, strings_head, part_names, table_names, relocation_names, object_section_names, file_sections, shstrtab_index, object_of}
 use Rattle.obj_write.specs.Reader.{IsPartRead}
 use Rattle.obj_write.proofs.ReadLemmas.{Stands, stands_left, stands_right, stands_drop, stands_each, header}
 use Rattle.obj_write.proofs.ObjectLemmas.{length_names}
@@ -77,7 +78,7 @@ part_name : (unit : UnitValue) (k : ℕ) → k < length unit.sections → get_or
 unfolding object_section_names
 part_name unit k lt =
     let n = length-map unit.sections (λ (s : SectionValue). s.name) in
-    get_or_append_left (part_names unit.sections) (table_names ++ map (relocation_name unit.sections) (relocated_in unit)) [] k (omega (arith, n))
+    get_or_append_left (part_names unit.sections) (table_names ++ relocation_names unit) [] k (omega (arith, n))
     ∙ get_or-map (λ (s : SectionValue). s.name) unit.sections k no_part [] lt
 
 part_stands : (unit : UnitValue) → IsUnit unit → (k : ℕ) → k < length unit.sections → Stands (object_of unit) (content_at (file_sections unit) k) ((get_or unit.sections k no_part).bytes)

@@ -9,7 +9,7 @@ use Rattle.std.proofs.lemmas.List.Concat.{flat_map-append}
 use Rattle.elf_objects.specs.Passes.{each_below}
 use Rattle.elf_objects.proofs.PassLemmas.{each_below_more, each_below_zero, length_each_below, at_each, all_below_more, all_below_zero}
 use Rattle.asm_text.specs.declared.unit.AsmRelocation.{AsmRelocation}
-use Rattle.obj_write.specs.Relocations.{relocation_entry, relocations_in, relocation_table, index_where_some, relocated_sections}
+use Rattle.obj_write.specs.Relocations.{relocation_entry, relocations_in, relocation_table, where_some, relocated_sections}
 
 -- a relocation for a place past the end
 abbrev pub no_relocation : AsmRelocation
@@ -106,7 +106,7 @@ some_bytes (r ∷ rs) e =
     absurd (omega (arith, a, b, c))
 
 relocated_by : (rs : List AsmRelocation) (i : ℕ) (table : List ℕ) (empty : Bool) → table ≡ flat_map relocation_entry rs → (length table ≡ 0 → empty ≡ true) → (empty ≡ true → length table ≡ 0)
-    → index_where_some rs i ≡ cond empty [] (i ∷ [])
+    → where_some rs i ≡ cond empty [] (i ∷ [])
 relocated_by [] i table true is sure only = refl
 relocated_by [] i table false is sure only = let z : length table ≡ 0 = ap length is in let t = sure z in cc
 relocated_by (r ∷ rs) i table false is sure only = refl
@@ -137,8 +137,8 @@ relocated_more items ts t i old new empty rs lt is tested more tables so_far =
     = ap items is ∙ (sym (get_or-map items ts i t [] lt) ∙ (ap (λ (l : List (List ℕ)). get_or l i []) tables ∙ at_each (relocation_table rs) (length ts) i [] lt)) in
     more ∙ (ap (λ l. l ++ cond empty [] (i ∷ [])) so_far
     ∙ (ap (λ l. relocated_sections rs i ++ l) (sym (relocated_by (relocations_in rs i) i (items t) empty table (λ z. grind (arith, nat_tests)) (λ z. grind (arith, nat_tests))))
-    ∙ sym (all_below_more (λ k. index_where_some (relocations_in rs k) k) i)))
+    ∙ sym (all_below_more (λ k. where_some (relocations_in rs k) k) i)))
 
 pub none_relocated : (rs : List AsmRelocation) (l : List ℕ) → l ≡ [] → l ≡ relocated_sections rs 0
 unfolding relocated_sections
-none_relocated rs l e = e ∙ sym (all_below_zero (λ k. index_where_some (relocations_in rs k) k))
+none_relocated rs l e = e ∙ sym (all_below_zero (λ k. where_some (relocations_in rs k) k))

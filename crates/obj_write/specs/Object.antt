@@ -1,6 +1,6 @@
 -- The file of a unit (TIS ELF 1.2).
-use Rattle.std.specs.Prelude.{ℕ, ◌+◌, List, [], ◌∷◌, ◌++◌, length, map, slice_index_or, codes, replicate}
-use Rattle.std.specs.List.{enumerate_from}
+use Rattle.std.specs.Prelude.{ℕ, ◌+◌, List, [], ◌∷◌, ◌++◌, length, map, codes, replicate}
+use Rattle.std.specs.List.{flat_map, enumerate_from}
 use Rattle.elf_objects.specs.Numbers.{file_header_size, relocatable, msp430, current_version, class_32, low_byte_first, section_header_size, progbits, symtab, strtab, rela, nobits, write_flag, alloc_flag, execute_flag, symbol_size, relocation_size}
 use Rattle.asm_text.specs.declared.unit.SectionKind.{SectionKind}
 use Rattle.asm_text.specs.declared.unit.SectionKind.TheVariants.{Code, Data, Bss}
@@ -10,10 +10,7 @@ use Rattle.obj_write.specs.Bytes.{half_bytes, long_bytes}
 use Rattle.obj_write.specs.Strings.{string_table, name_at}
 use Rattle.obj_write.specs.Sections.{FileSection, padded_contents, header_table}
 use Rattle.obj_write.specs.Symbols.{symbol_names, symbol_table_bytes, first_global}
-use Rattle.obj_write.specs.Relocations.{relocated_sections, relocation_table}
-
-abbrev pub no_part : SectionValue
-no_part = record { name = []; kind = Bss; size = 0; bytes = [] }
+use Rattle.obj_write.specs.Relocations.{relocations_in, relocation_table, where_some, relocated_sections}
 
 -- ---- names of sections
 
@@ -24,15 +21,20 @@ abbrev pub table_names : List (List ℕ)
 table_names = codes ".symtab" ∷ codes ".strtab" ∷ codes ".shstrtab" ∷ []
 
 -- `.rela` followed by the name of the section
-abbrev pub relocation_name : List SectionValue → ℕ → List ℕ
-relocation_name sections i = codes ".rela" ++ (slice_index_or sections i no_part).name
+abbrev pub relocation_name : SectionValue → List ℕ
+relocation_name s = codes ".rela" ++ s.name
+
+-- those of the sections with relocations
+unfoldable pub relocation_names : UnitValue → List (List ℕ)
+relocation_names unit =
+    flat_map (λ (p : ℕ × SectionValue). where_some (relocations_in unit.relocations p.0) (relocation_name p.1)) (enumerate_from 0 unit.sections)
 
 abbrev pub relocated_in : UnitValue → List ℕ
 relocated_in unit = relocated_sections unit.relocations (length unit.sections)
 
 -- by index from 1 on
 unfoldable pub object_section_names : UnitValue → List (List ℕ)
-object_section_names unit = part_names unit.sections ++ (table_names ++ map (relocation_name unit.sections) (relocated_in unit))
+object_section_names unit = part_names unit.sections ++ (table_names ++ relocation_names unit)
 
 -- ---- sections
 

@@ -20,11 +20,11 @@ relocations_in relocations section = filter (λ r. r.section == section) relocat
 unfoldable pub relocation_table : List AsmRelocation → ℕ → List ℕ
 relocation_table relocations section = flat_map relocation_entry (relocations_in relocations section)
 
--- a section's index, where it has relocations
-abbrev pub index_where_some : List AsmRelocation → ℕ → List ℕ
-index_where_some [] section = []
-index_where_some (r ∷ rs) section = section ∷ []
+-- a value, where there are relocations
+abbrev pub where_some : {A : Type 0} → List AsmRelocation → A → List A
+where_some [] value = []
+where_some (r ∷ rs) value = value ∷ []
 
 -- the sections with relocations, of so many
 unfoldable pub relocated_sections : List AsmRelocation → ℕ → List ℕ
-relocated_sections relocations count = all_below (λ i. index_where_some (relocations_in relocations i) i) count
+relocated_sections relocations count = all_below (λ i. where_some (relocations_in relocations i) i) count

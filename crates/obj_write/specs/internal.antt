@@ -1,2 +1,3 @@
+pub mod Object
 pub mod Sections
 pub mod Strings

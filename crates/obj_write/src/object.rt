@@ -5,12 +5,13 @@ ghost use Rattle.elf_objects.specs.Passes.{each_below};
 ghost use Rattle.elf_objects.specs.Object.{elf_fault_of, ObjectValue, IsObject};
 ghost use Rattle.asm_text.specs.Unit.{unit_of};
 ghost use Rattle.asm_text.specs.Views.{section_value};
+ghost use Rattle.obj_write.specs.internal.Object.{relocation_name_at};
 ghost use Rattle.obj_write.specs.internal.Strings.{IsTableOf};
 ghost use Rattle.obj_write.specs.Sections.{FileSection};
 ghost use Rattle.obj_write.specs.internal.Sections.{AreSections};
 ghost use Rattle.obj_write.specs.Symbols.{symbol_names, symbol_table_bytes};
 ghost use Rattle.obj_write.specs.Relocations.{relocation_table};
-ghost use Rattle.obj_write.specs.Object.{section_type, section_flags, part_names, table_names, part_head, symbols_head, strings_head, relocations_head, relocation_name, relocated_in, object_section_names, part_sections, table_sections, relocation_sections, file_sections, file_header, file_bytes, object_of};
+ghost use Rattle.obj_write.specs.Object.{section_type, section_flags, part_names, table_names, part_head, symbols_head, strings_head, relocations_head, relocated_in, object_section_names, part_sections, table_sections, relocation_sections, file_sections, file_header, file_bytes, object_of};
 ghost use Rattle.obj_write.specs.Reader.{IsObjectOf};
 
 use crate::bytes::{put_half, put_word};
@@ -98,7 +99,7 @@ fn name_relocations(
 ) -> Result<(), AllocError>
     requires { All (λ i. i < length sections.now) relocated.now }
     ensures { OnOk result ((names : List (List ℕ)) → IsTableOf names strings.old →
-        IsTableOf (names ++ map (relocation_name (map section_value sections.now)) relocated.now) strings.new) }
+        IsTableOf (names ++ map (relocation_name_at (map section_value sections.now)) relocated.now) strings.new) }
 {
     for i in relocated {
         strings.add(b".rela", sections[*i].name.as_bytes())?;
@@ -107,7 +108,6 @@ fn name_relocations(
 }
 
 // The names of all sections after section 0.
-#[tactic(auto, unfolding(crate::specs::Object::object_section_names))]
 fn name_sections(alloc: Global, unit: &AsmUnit, relocated: &[usize]) -> Result<Strings, AllocError>
     requires { relocated.now ≡ relocated_in (unit_of unit.now) }
     ensures { IfOk result (IsTableOf (object_section_names (unit_of unit.now))) }
