@@ -9,7 +9,7 @@ use Rattle.asm_text.specs.declared.placing.Spot.{Spot}
 use Rattle.asm_text.specs.declared.statement.Field.{Field}
 use Rattle.asm_text.specs.declared.statement.Field.TheVariants.{Number, Name}
 use Rattle.asm_text.specs.declared.statement.Statement.{Statement}
-use Rattle.asm_text.specs.declared.statement.Statement.TheVariants.{Section, Label, Global, Word, Jump, Code}
+use Rattle.asm_text.specs.declared.statement.Statement.TheVariants.{Section, Label, Global, Word, Space, Jump, Code}
 use Rattle.asm_text.specs.declared.unit.AsmFault.{AsmFault}
 use Rattle.asm_text.specs.declared.unit.AsmFault.TheVariants.{Place, NoLabel, Far}
 use Rattle.asm_text.specs.declared.unit.AsmRelocation.{AsmRelocation}
@@ -63,7 +63,10 @@ abbrev pub statement_bytes : Meanings → ℕ → ℕ → ℕ → Statement ℕ 
 statement_bytes m n section here (Word field) = Ok (word_bytes (field_number field))
 statement_bytes m n section here (Jump condition target) = jump_bytes n section here condition (spot_of m.spots target)
 statement_bytes m n section here (Code insn first second) = Ok (code_bytes insn)
-statement_bytes m n section here _ = Ok []
+statement_bytes m n section here (Space size) = Ok []
+statement_bytes m n section here (Section name kind) = Ok []
+statement_bytes m n section here (Label name) = Ok []
+statement_bytes m n section here (Global name) = Ok []
 
 -- ---- its relocations
 
