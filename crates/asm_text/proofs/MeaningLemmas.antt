@@ -1,5 +1,5 @@
 -- The words of an instruction mean it.
-use Rattle.std.proofs.Common.{ℕ, ◌≡◌, ◌+◌, ◌*◌, ◌/◌, ◌%◌, ◌<◌, Bool, true, false, not, cond, ◌&&◌, ◌||◌, nat_lt, nat_eq, [], ◌∷◌, ◌++◌, refl, ap, sym, subst, ◌∙◌, arith, get_or}
+use Rattle.std.proofs.Common.{ℕ, ◌≡◌, ◌+◌, ◌*◌, ◌/◌, ◌%◌, ◌<◌, Bool, true, false, not, cond, ◌&&◌, ◌||◌, nat_lt, nat_eq, List, [], ◌∷◌, ◌++◌, length, take, drop, refl, ap, sym, subst, ◌∙◌, arith, get_or}
 use Rattle.std.proofs.lemmas.Bool.Decides.{nat_tests}
 use Rattle.std.proofs.lemmas.Bool.{and_parts}
 use Rattle.sm_words.specs.declared.width.Width.{Width}
@@ -145,70 +145,43 @@ one_code_low _ = omega arith
 
 -- ---- instructions
 
--- a source, and the words after the first
-pub record IsPair (s d : Operand) (w1 w2 : ℕ) : Type 0 where
-  pub other : ℕ
-  pub source : ext_of s other ≡ w1
-  pub more : ℕ
-  pub dest : ext_of d more ≡ (cond (nat_eq (words_in s) 1) w2 w1)
+-- the word of an operand, where it is the first of these
+word_of : (o : Operand) (w : ℕ) (more : List ℕ) → extension o ≡ take (length (extension o)) (w ∷ more) → ext_of o w ≡ w
+word_of (Imm x) w more e = ap (λ (l : List ℕ). get_or l 0 0) e
+word_of (Indexed r x) w more e = ap (λ (l : List ℕ). get_or l 0 0) e
+word_of (Symbolic x) w more e = ap (λ (l : List ℕ). get_or l 0 0) e
+word_of (Absolute x) w more e = ap (λ (l : List ℕ). get_or l 0 0) e
+word_of _ w more e = refl
 
-no_source : (s d : Operand) → extension s ≡ [] → words_in s ≡ 0 → IsPair s d (get_or (extension s ++ extension d) 0 0) (get_or (extension s ++ extension d) 1 0)
-no_source s d none words = by d
-  where
-    w1 : Operand → ℕ
-    w1 d = get_or (extension s ++ extension d) 0 0
-
-    same : (d : Operand) → get_or (extension d) 0 0 ≡ get_or (extension s ++ extension d) 0 0
-    same d = ap (λ xs. get_or (xs ++ extension d) 0 0) (sym none)
-
-    front : (x : ℕ) → x ≡ ext_of s x
-    front x = ap (λ xs. get_or (xs ++ x ∷ []) 0 0) (sym none)
-
-    pick : (d : Operand) → get_or (extension s ++ extension d) 0 0 ≡ cond (nat_eq (words_in s) 1) (get_or (extension s ++ extension d) 1 0) (get_or (extension s ++ extension d) 0 0)
-    pick d = ap (λ n. cond (nat_eq n 1) (get_or (extension s ++ extension d) 1 0) (get_or (extension s ++ extension d) 0 0)) (sym words)
-
-    first : (d : Operand) → ext_of d 0 ≡ get_or (extension d) 0 0
-    first (Reg r) = refl
-    first _ = refl
-
-    by : (d : Operand) → IsPair s d (get_or (extension s ++ extension d) 0 0) (get_or (extension s ++ extension d) 1 0)
-    by d = record { other = get_or (extension s ++ extension d) 0 0; source = sym (front (get_or (extension s ++ extension d) 0 0)); more = 0; dest = first d ∙ (same d ∙ pick d) }
-
-first_of : (d : Operand) → ext_of d 0 ≡ get_or (extension d) 0 0
-first_of (Reg r) = refl
-first_of _ = refl
-
-pub pair : (s d : Operand) → IsPair s d (get_or (extension s ++ extension d) 0 0) (get_or (extension s ++ extension d) 1 0)
-pair (Reg r) d = no_source (Reg r) d refl refl
-pair (Const c) d = no_source (Const c) d refl refl
-pair (Indirect r) d = no_source (Indirect r) d refl refl
-pair (Increment r) d = no_source (Increment r) d refl refl
-pair _ d = record { other = 0; source = refl; more = 0; dest = first_of d }
+-- the words of a source and a destination
+pair : (s d : Operand) (w1 w2 : ℕ) → extension s ++ extension d ≡ take (length (extension s ++ extension d)) (w1 ∷ w2 ∷ [])
+    → (ext_of s w1 ≡ w1) × (ext_of d (cond (nat_eq (words_in s) 1) w2 w1) ≡ cond (nat_eq (words_in s) 1) w2 w1)
+pair (Reg r) d w1 w2 e = (refl, word_of d w1 (w2 ∷ []) e)
+pair (Const c) d w1 w2 e = (refl, word_of d w1 (w2 ∷ []) e)
+pair (Indirect r) d w1 w2 e = (refl, word_of d w1 (w2 ∷ []) e)
+pair (Increment r) d w1 w2 e = (refl, word_of d w1 (w2 ∷ []) e)
+pair _ d w1 w2 e = (ap (λ (l : List ℕ). get_or l 0 0) e, word_of d w2 [] (ap (drop 1) e))
 
 two_means : (op : TwoOp) (w : Width) (s d : Operand) → is_source s ≡ true → is_dest d ≡ true → IsMeant (Two op w s d)
 unfolding encoded_first
-two_means op w s d hs hd =
+two_means op w s d hs hd w1 w2 e =
     let w0 = two_code op * 4096 + source_register s * 256 + dest_mode d * 128 + byte_flag w * 64 + source_mode s * 16 + source_register d in
-    let w1 = get_or (extension s ++ extension d) 0 0 in
-    let w2 = get_or (extension s ++ extension d) 1 0 in
     let f = fields (two_code op) (source_register s) (dest_mode d) (byte_flag w) (source_mode s) (source_register d) (register_low s) (dest_mode_low d) (flag_low w) (mode_low s) (register_low d) in
-    let p = pair s d in
+    let p = pair s d w1 w2 e in
     let source : Source ((w0 / 16) % 4) ((w0 / 256) % 16) w1 s =
-    subst (λ m. Source m ((w0 / 256) % 16) w1 s) (sym f.mode) (subst (λ r. Source (source_mode s) r w1 s) (sym f.source) (subst (λ x. Source (source_mode s) (source_register s) x s) p.source (source_is s p.other hs))) in
+    subst (λ m. Source m ((w0 / 256) % 16) w1 s) (sym f.mode) (subst (λ r. Source (source_mode s) r w1 s) (sym f.source) (subst (λ x. Source (source_mode s) (source_register s) x s) p.0 (source_is s w1 hs))) in
     let dest : Destination ((w0 / 128) % 2) (w0 % 16) (cond (nat_eq (words_in s) 1) w2 w1) d =
-    subst (λ m. Destination m (w0 % 16) (cond (nat_eq (words_in s) 1) w2 w1) d) (sym f.dest_mode_is) (subst (λ r. Destination (dest_mode d) r (cond (nat_eq (words_in s) 1) w2 w1) d) (sym f.register_is) (subst (λ x. Destination (dest_mode d) (source_register d) x d) p.dest (dest_is d p.more hd))) in
+    subst (λ m. Destination m (w0 % 16) (cond (nat_eq (words_in s) 1) w2 w1) d) (sym f.dest_mode_is) (subst (λ r. Destination (dest_mode d) r (cond (nat_eq (words_in s) 1) w2 w1) d) (sym f.register_is) (subst (λ x. Destination (dest_mode d) (source_register d) x d) p.1 (dest_is d (cond (nat_eq (words_in s) 1) w2 w1) hd))) in
     let width : width_of ((w0 / 64) % 2) ≡ w = ap width_of f.byte ∙ flag_width w in
     subst (λ (v : Width). Means w0 w1 w2 (Two op v s d) (1 + words_in s + words_in d)) width (format_one op s d f.op_is source dest)
 
 one_means : (op : OneOp) (w : Width) (a : Operand) → is_source a ≡ true → one_fits op w a ≡ true → IsMeant (One op w a)
 unfolding encoded_first
-one_means op w a ha fits =
+one_means op w a ha fits w1 w2 e =
     let w0 = 4096 + one_code op * 128 + byte_flag w * 64 + source_mode a * 16 + source_register a in
-    let w1 = get_or (extension a) 0 0 in
-    let w2 = get_or (extension a) 1 0 in
     let f = few_fields (one_code op) (byte_flag w) (source_mode a) (source_register a) (one_code_low op) (flag_low w) (mode_low a) (register_low a) in
     let source : Source ((w0 / 16) % 4) (w0 % 16) w1 a =
-    subst (λ m. Source m (w0 % 16) w1 a) (sym f.mode) (subst (λ r. Source (source_mode a) r w1 a) (sym f.register_is) (subst (λ x. Source (source_mode a) (source_register a) x a) (first_of a) (source_is a 0 ha))) in
+    subst (λ m. Source m (w0 % 16) w1 a) (sym f.mode) (subst (λ r. Source (source_mode a) r w1 a) (sym f.register_is) (subst (λ x. Source (source_mode a) (source_register a) x a) (word_of a w1 (w2 ∷ []) e) (source_is a w1 ha))) in
     let width : width_of ((w0 / 64) % 2) ≡ w = ap width_of f.byte ∙ flag_width w in
     subst (λ (v : Width). Means w0 w1 w2 (One op v a) (1 + words_in a)) width
     (format_two op a f.form f.op_is source (subst (λ (v : Width). one_fits op v a ≡ true) (sym width) fits))
@@ -218,5 +191,5 @@ unfolding encoded_first
 coded_means (Two op w s d) e = let b = and_parts (is_source s) (is_dest d) e in two_means op w s d b.0 b.1
 coded_means (One op w a) e = let b = and_parts (is_source a) (one_fits op w a) e in one_means op w a b.0 b.1
 coded_means (Jump c o) e = absurd cc
-coded_means Reti e = return refl
-coded_means (UnitOp name) e = unit name refl
+coded_means Reti e = λ w1 w2 h. return refl
+coded_means (UnitOp name) e = λ w1 w2 h. unit name refl

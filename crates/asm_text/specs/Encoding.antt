@@ -1,5 +1,5 @@
 -- The words of an instruction (MSP430x1xx Family User's Guide SLAU049, sections 3.3 and 3.4).
-use Rattle.std.specs.Prelude.{ℕ, ◌+◌, ◌-◌, ◌*◌, ◌%◌, ◌==◌, nat_lt, Bool, true, false, not, ◌&&◌, if◌then◌else◌, List, [], ◌∷◌, ◌++◌, slice_index_or, flat_map, ℤ, pos, negsuc}
+use Rattle.std.specs.Prelude.{◌≡◌, ℕ, ◌+◌, ◌-◌, ◌*◌, ◌%◌, ◌==◌, nat_lt, Bool, true, false, not, ◌&&◌, if◌then◌else◌, List, [], ◌∷◌, ◌++◌, length, take, flat_map, ℤ, pos, negsuc}
 use Rattle.sm_words.specs.Bytes.{word_bytes}
 use Rattle.sm_words.specs.declared.width.Width.{Width}
 use Rattle.sm_words.specs.declared.width.Width.TheVariants.{Byte, Word}
@@ -78,9 +78,9 @@ extensions _ = []
 abbrev pub encoded_words : Insn → List ℕ
 encoded_words insn = encoded_first insn ∷ extensions insn
 
--- the words of an instruction mean it, by the code table
+-- the words of an instruction mean it, by the code table, whatever words follow them
 abbrev pub IsMeant : Insn → Type 0
-IsMeant insn = Means (encoded_first insn) (slice_index_or (extensions insn) 0 0) (slice_index_or (extensions insn) 1 0) insn (length_of insn)
+IsMeant insn = (w1 w2 : ℕ) → extensions insn ≡ take (length (extensions insn)) (w1 ∷ w2 ∷ []) → Means (encoded_first insn) w1 w2 insn (length_of insn)
 
 -- the bytes of its words
 abbrev pub code_bytes : Insn → List ℕ
