@@ -7,6 +7,7 @@ use Rattle.std.proofs.lemmas.List.{length-map, length-set, get_or-map, get_or_pa
 use Rattle.std.proofs.lemmas.List.Elements.{All-push, All-set, All-append, All-cons}
 use Rattle.std.proofs.lemmas.List.Quantifiers.{position-Some}
 use Rattle.std.proofs.lemmas.Option.{slice_get_within, get_or_from_slice_get}
+use Rattle.insn_decode.specs.declared.insn.Insn.TheVariants.{Two, One}
 use Rattle.asm_text.specs.declared.TheConstants.{MAX_SECTIONS}
 use Rattle.asm_text.specs.declared.placing.Head.{Head}
 use Rattle.asm_text.specs.declared.placing.Spot.{Spot}
@@ -202,9 +203,10 @@ tied_if m symbols sections section offset (Some name) has low = by (slice_index_
 
 tied_of : (m : Meanings) (symbols sections section here : ℕ) (s : Statement ℕ) → HasSymbols m symbols → section < sections → All (IsAsmRelocation sections symbols) (statement_relocations m section here s)
 tied_of m symbols sections section here (Word (Name name)) has low = tied_if m symbols sections section here (Some name) has low
-tied_of m symbols sections section here (Code insn x y) has low =
-    All-append (IsAsmRelocation sections symbols) (relocation_if m section (here + 2) x) (relocation_if m section (here + second_word insn) y)
-    (tied_if m symbols sections section (here + 2) x has low) (tied_if m symbols sections section (here + second_word insn) y has low)
+tied_of m symbols sections section here (Code (Two op w s d) x y) has low =
+    All-append (IsAsmRelocation sections symbols) (relocation_if m section (here + 2) x) (relocation_if m section (here + second_word s) y)
+    (tied_if m symbols sections section (here + 2) x has low) (tied_if m symbols sections section (here + second_word s) y has low)
+tied_of m symbols sections section here (Code (One op w a) x y) has low = tied_if m symbols sections section (here + 2) x has low
 tied_of m symbols sections section here _ has low = λ k d h. absurd (omega (arith, h))
 
 count_if : (m : Meanings) (section offset : ℕ) (name : Option ℕ) → length (relocation_if m section offset name) ≤ 1
@@ -217,10 +219,11 @@ count_if m section offset (Some name) = by (slice_index_or m.symbols name None)
 
 count_of : (m : Meanings) (section here : ℕ) (s : Statement ℕ) → length (statement_relocations m section here s) ≤ 2
 count_of m section here (Word (Name name)) = let one = count_if m section here (Some name) in omega arith
-count_of m section here (Code insn x y) =
+count_of m section here (Code (Two op w s d) x y) =
     let one = count_if m section (here + 2) x in
-    let two = count_if m section (here + second_word insn) y in
-    omega (arith, length-append (relocation_if m section (here + 2) x) (relocation_if m section (here + second_word insn) y))
+    let two = count_if m section (here + second_word s) y in
+    omega (arith, length-append (relocation_if m section (here + 2) x) (relocation_if m section (here + second_word s) y))
+count_of m section here (Code (One op w a) x y) = let one = count_if m section (here + 2) x in omega arith
 count_of m section here _ = omega arith
 
 -- relocations from line to line

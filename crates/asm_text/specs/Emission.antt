@@ -2,8 +2,8 @@
 use Rattle.std.specs.Prelude.{ℕ, ◌+◌, ◌-◌, ◌*◌, ◌/◌, ◌==◌, nat_le, nat_lt, Bool, if◌then◌else◌, List, [], ◌∷◌, ◌++◌, length, slice_index_or, slice_get, slice_set, Option, Some, None, option_and_then, Result, Ok, Err, ℤ, pos, negsuc, ◌-ℤ◌}
 use Rattle.sm_words.specs.Bytes.{word_bytes}
 use Rattle.insn_decode.specs.declared.insn.Condition.{Condition}
-use Rattle.insn_decode.specs.declared.insn.Insn.{Insn}
-use Rattle.insn_decode.specs.declared.insn.Insn.TheVariants.{Two}
+use Rattle.insn_decode.specs.declared.insn.Insn.TheVariants.{Two, One}
+use Rattle.insn_decode.specs.declared.insn.Operand.{Operand}
 use Rattle.insn_decode.specs.Code.{words_of as words_in}
 use Rattle.asm_text.specs.declared.placing.Spot.{Spot}
 use Rattle.asm_text.specs.declared.statement.Field.{Field}
@@ -77,15 +77,15 @@ relocation_at section offset (Some symbol) = (record { section = section; offset
 abbrev pub relocation_if : Meanings → ℕ → ℕ → Option ℕ → List AsmRelocation
 relocation_if m section offset name = relocation_at section offset (option_and_then (λ n. slice_index_or m.symbols n None) name)
 
--- the offset of the word of the second operand, from the start of the instruction
-abbrev pub second_word : Insn → ℕ
-second_word (Two op w s d) = 2 + 2 * words_in s
-second_word _ = 2
+-- the offset of the word of a second operand after this one, from the start of the instruction
+abbrev pub second_word : Operand → ℕ
+second_word first = 2 + 2 * words_in first
 
 abbrev pub statement_relocations : Meanings → ℕ → ℕ → Statement ℕ → List AsmRelocation
 statement_relocations m section here (Word (Name name)) = relocation_if m section here (Some name)
-statement_relocations m section here (Code insn first second) =
-    relocation_if m section (here + 2) first ++ relocation_if m section (here + second_word insn) second
+statement_relocations m section here (Code (Two op w s d) first second) =
+    relocation_if m section (here + 2) first ++ relocation_if m section (here + second_word s) second
+statement_relocations m section here (Code (One op w a) first second) = relocation_if m section (here + 2) first
 statement_relocations m section here _ = []
 
 -- ---- line by line

@@ -177,15 +177,12 @@ fn statement_bytes(
     }
 }
 
-// The offset of the word of the second operand, from the start of the instruction.
-fn second_word(insn: Insn) -> u32
-    ensures exact { result ≡ spec.second_word insn }
+// The offset of the word of a second operand after this one, from the start of the instruction.
+fn second_word(first: Operand) -> u32
+    ensures exact { result ≡ spec.second_word first }
     ensures most { result ≤ 4 }
 {
-    match insn {
-        Insn::Two { src, .. } => 2 + 2 * u32::from(src.words()),
-        _ => 2,
-    }
+    2 + 2 * u32::from(first.words())
 }
 
 // A section with a statement more.
@@ -259,10 +256,14 @@ impl Emission {
                 insn,
                 first,
                 second,
-            } => {
-                self.relocate(meanings, section, here + 2, first)?;
-                self.relocate(meanings, section, here + second_word(insn), second)
-            }
+            } => match insn {
+                Insn::Two { src, .. } => {
+                    self.relocate(meanings, section, here + 2, first)?;
+                    self.relocate(meanings, section, here + second_word(src), second)
+                }
+                Insn::One { .. } => self.relocate(meanings, section, here + 2, first),
+                Insn::Jump { .. } | Insn::Reti | Insn::Unit(_) => Ok(()),
+            },
             Statement::Word(Field::Number(_))
             | Statement::Section { .. }
             | Statement::Label(_)
