@@ -38,6 +38,8 @@ on_stop s text pc join insn m n = by (holds s pc && nat_lt pc join)
     by true = ap (λ o. arm_next join pc o) m ∙ n
     by false = refl
 
+pub ruleset goes = (on_at, on_far, on_stop, on_unmet)
+
 -- ---- it goes up
 
 next_up : (b : Bool) (pc a join next : ℕ) → (b ≡ true → (pc < a) × (a ≤ join)) → cond b (Some a) None ≡ Some next → (pc < next) × (next ≤ join)
@@ -148,3 +150,5 @@ time_step s text join pc next total insn r e ne on it =
 
 pub time_done : (s : Section) (text : List ℕ) (join total : ℕ) (r : Result ℕ ℕ) → r ≡ with_rest total (time_of s text join join) → Ok total ≡ r
 time_done s text join total r e = sym (e ∙ ap (with_rest total) (time_ends s text join) ∙ ap (λ n. Ok n) (let f : total + 0 ≡ total = omega arith in f))
+
+pub ruleset times = (time_step, time_stops, time_done, with_zero)

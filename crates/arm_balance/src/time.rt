@@ -78,7 +78,7 @@ pub fn arm_next(insn: &Insn, pc: u16, join: u16) -> Option<u16>
 }
 
 /// The instruction of an arm at `pc`, and where it goes on.
-#[tactic(auto, using(crate::proofs::Times::on_at, crate::proofs::Times::on_far, crate::proofs::Times::on_stop, crate::proofs::Times::on_unmet))]
+#[tactic(auto, using(crate::proofs::Times::goes))]
 pub fn met_arm(section: Section, text: &[u8], pc: u16, join: u16) -> Option<(Insn, u16)>
     ensures met { IfSome result (λ r. met section text.now pc ≡ Some r.0) }
     ensures goes_on { IfSome result (λ r. arm_on section text.now join pc ≡ Some r.1) }
@@ -101,7 +101,7 @@ pub fn met_arm(section: Section, text: &[u8], pc: u16, join: u16) -> Option<(Ins
 
 /// The cycles of the arm from `start` to `join`, or the address of the first of its instructions that may not stand in
 /// an arm.
-#[tactic(auto, using(crate::proofs::Times::time_step, crate::proofs::Times::time_stops, crate::proofs::Times::time_done, crate::proofs::Times::with_zero))]
+#[tactic(auto, using(crate::proofs::Times::times))]
 pub fn arm_time(section: &Section, text: &[u8], start: u16, join: u16) -> Result<u32, u16>
     ensures time { result ≡ time_of section.now text.now start join }
 {
