@@ -53,7 +53,8 @@ impl Machine {
 
     /// Goes to a moment, but for the bytes of memory.
     pub fn go_to(&mut self, moment: &Moment)
-        ensures state { state_of self.new ≡ moment_state (lasting_of self.old).fixed moment.now self.old.port.memory.bytes }
+        ensures state { state_of self.new ≡
+            moment_state (lasting_of self.old).fixed moment.now self.old.port.memory.bytes }
         ensures ticks { self.new.port.bus.ticks ≡ moment.now.bus.ticks }
         ensures lasting { lasting_of self.new ≡ lasting_of self.old }
     {
@@ -173,7 +174,8 @@ impl Machine {
         requires sound { IsSound (mark_state (lasting_of self.old) k moment.now) }
         requires in_step { IsInStep moment.now }
         requires runs { RunsTo end (mark_state (lasting_of self.old) k moment.now) }
-        ensures state { let s = mark_state (lasting_of self.old) k moment.now in state_of self.new ≡ after_cycles s (end - s.cycle) }
+        ensures state { let s = mark_state (lasting_of self.old) k moment.now in
+            state_of self.new ≡ after_cycles s (end - s.cycle) }
         ensures stands { MachineStands self.new }
         ensures lasting { lasting_of self.new ≡ cut k (lasting_of self.old) }
     {

@@ -76,7 +76,8 @@ impl Settled<'_> {
         &self.machine.port.bus
     }
 
-    /// The module that the instruction at PC is done for: the active one, and where none is, the one at whose entry PC is.
+    /// The module that the instruction at PC is done for: the active one, and where none is, the one at whose entry PC
+    /// is.
     pub fn entered(&self) -> Option<u16>
         ensures { result ≡ (entered self.now).active }
     {
