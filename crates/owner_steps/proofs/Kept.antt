@@ -25,10 +25,10 @@ one_more xs x = omega (arith, length-append xs (x ∷ []))
 read_same : (t : Traced) (x : Access) → length t.touched < 3 → read_kept t x.width x.addr ≡ traced_read t x.width x.addr
 read_same t x h =
     ap (λ (l : List Touch). let u : Traced = record { port = (read_width x.width t.port x.addr).port; touched = l } in u)
-    (kept_all t.touched (touch Read x.width x.addr (traced_answer t x.width x.addr)) h)
+    (kept_all t.touched (touch false x.width x.addr (traced_answer t x.width x.addr)) h)
 
 write_same : (t : Traced) (x : Access) (v : ℕ) → length t.touched < 3 → write_kept t x.width x.addr v ≡ traced_write t x.width x.addr v
-write_same t x v h = ap (λ (l : List Touch). let u : Traced = record t { touched = l } in u) (kept_all t.touched (touch Write x.width x.addr v) h)
+write_same t x v h = ap (λ (l : List Touch). let u : Traced = record t { touched = l } in u) (kept_all t.touched (touch true x.width x.addr v) h)
 
 abbrev value_first : ℕ → Taken Traced → Taken Traced
 value_first v r = record { values = v ∷ r.values; state = r.state }
@@ -37,7 +37,7 @@ reads_same : (xs : List Access) (t : Traced) → length t.touched + length xs �
 reads_same [] t h = refl
 reads_same (x ∷ xs) t h =
     let next : Traced = traced_read t x.width x.addr in
-    let long : length next.touched ≡ length t.touched + 1 = one_more t.touched (touch Read x.width x.addr (traced_answer t x.width x.addr)) in
+    let long : length next.touched ≡ length t.touched + 1 = one_more t.touched (touch false x.width x.addr (traced_answer t x.width x.addr)) in
     ap (λ (u : Traced). value_first (traced_answer t x.width x.addr) (taken traced_answer read_kept u xs)) (read_same t x (omega arith))
     ∙ ap (value_first (traced_answer t x.width x.addr)) (reads_same xs next (omega (arith, long)))
 
@@ -45,7 +45,7 @@ reads_long : (xs : List Access) (t : Traced) → length (taken traced_answer tra
 reads_long [] t = omega arith
 reads_long (x ∷ xs) t =
     let next : Traced = traced_read t x.width x.addr in
-    let long : length next.touched ≡ length t.touched + 1 = one_more t.touched (touch Read x.width x.addr (traced_answer t x.width x.addr)) in
+    let long : length next.touched ≡ length t.touched + 1 = one_more t.touched (touch false x.width x.addr (traced_answer t x.width x.addr)) in
     omega (arith, long, reads_long xs next)
 
 writes_same : (xs : List Access) (values : List ℕ) (t : Traced) → length t.touched + length xs ≤ 3 → stored_in write_kept t xs values ≡ stored_in traced_write t xs values
@@ -53,7 +53,7 @@ writes_same [] values t h = refl
 writes_same (x ∷ xs) [] t h = refl
 writes_same (x ∷ xs) (v ∷ values) t h =
     let next : Traced = traced_write t x.width x.addr v in
-    let long : length next.touched ≡ length t.touched + 1 = one_more t.touched (touch Write x.width x.addr v) in
+    let long : length next.touched ≡ length t.touched + 1 = one_more t.touched (touch true x.width x.addr v) in
     ap (λ (u : Traced). stored_in write_kept u xs values) (write_same t x v (omega arith))
     ∙ writes_same xs values next (omega (arith, long))
 

@@ -1,5 +1,5 @@
 -- The instruction that a cycle begins, and its lines.
-use Rattle.std.specs.Prelude.{ℕ, nat_lt, if◌then◌else◌, List, [], ◌++◌, Option, Some, None, option_map, unwrap_or, codes}
+use Rattle.std.specs.Prelude.{ℕ, nat_lt, if◌then◌else◌, Bool, true, false, List, [], ◌++◌, Option, Some, None, option_map, unwrap_or, codes}
 use Rattle.std.specs.Fmt.{decimal}
 use Rattle.std.specs.List.{flat_map}
 use Rattle.texts.specs.Hexadecimals.{hex_byte, hex_word}
@@ -9,8 +9,6 @@ use Rattle.sm_words.specs.declared.width.Width.TheVariants.{Byte, Word}
 use Rattle.insn_decode.specs.Code.{length_of}
 use Rattle.insn_decode.specs.Text.{insn_text}
 use Rattle.insn_decode.specs.declared.insn.Insn.{Insn}
-use Rattle.pc_access.specs.declared.Kind.{Kind}
-use Rattle.pc_access.specs.declared.Kind.TheVariants.{Fetch, Read, Write}
 use Rattle.pc_access.specs.declared.Stop.{Stop}
 use Rattle.irq_padding.specs.Turns.{Turn, Begins}
 use Rattle.cpu_step.specs.Plan.{past}
@@ -46,14 +44,13 @@ abbrev pub value_text : Width → ℕ → List ℕ
 value_text Byte v = hex_byte (low_byte v)
 value_text Word v = hex_word v
 
-abbrev pub label_of : Kind → List ℕ
-label_of Write = codes "  write "
-label_of Read = codes "  read "
-label_of Fetch = codes "  fetch "
+abbrev pub label_of : Bool → List ℕ
+label_of true = codes "  write "
+label_of false = codes "  read "
 
 -- `  read AAAA VV` or `  write AAAA VV`
 abbrev pub touch_line : Touch → List ℕ
-touch_line t = label_of t.access.kind ++ hex_word t.access.addr ++ codes " " ++ value_text t.access.width t.value ++ codes "\n"
+touch_line t = label_of t.is_write ++ hex_word t.addr ++ codes " " ++ value_text t.width t.value ++ codes "\n"
 
 -- ---- what begins
 

@@ -1,10 +1,8 @@
 -- What an instruction reads and writes, in the order in which it does.
-use Rattle.std.specs.Prelude.{ℕ, false, List, [], ◌∷◌, ◌++◌}
+use Rattle.std.specs.Prelude.{ℕ, Bool, true, false, List, [], ◌∷◌, ◌++◌}
 use Rattle.sm_words.specs.declared.width.Width.{Width}
 use Rattle.insn_decode.specs.declared.insn.Insn.{Insn}
 use Rattle.insn_decode.specs.declared.insn.Insn.TheVariants.{Reti, Unit as UnitOp}
-use Rattle.pc_access.specs.declared.Kind.{Kind}
-use Rattle.pc_access.specs.declared.Kind.TheVariants.{Read, Write}
 use Rattle.reg_backup.specs.declared.frames.Frame.{Frame}
 use Rattle.reg_backup.specs.declared.frames.Frame.TheVariants.{Module as Held}
 use Rattle.cpu_step.specs.Through.{through}
@@ -13,9 +11,9 @@ use Rattle.written_machine.specs.Ports.{Port, read_width}
 use Rattle.written_machine.specs.State.{State}
 use Rattle.owner_steps.specs.declared.touching.Touch.{Touch}
 
--- an access with the value that is read or written
-abbrev pub touch : Kind → Width → ℕ → ℕ → Touch
-touch kind w a v = record { access = record { kind = kind; addr = a; width = w }; value = v }
+-- a read or a write with its value
+abbrev pub touch : Bool → Width → ℕ → ℕ → Touch
+touch is_write w a v = record { is_write = is_write; addr = a; width = w; value = v }
 
 -- devices and memory, and what was read and written there
 pub record Traced : Type 0 where
@@ -26,11 +24,11 @@ abbrev pub traced_answer : Traced → Width → ℕ → ℕ
 traced_answer t w a = (read_width w t.port a).value
 
 abbrev pub traced_read : Traced → Width → ℕ → Traced
-traced_read t w a = record { port = (read_width w t.port a).port; touched = t.touched ++ (touch Read w a (traced_answer t w a) ∷ []) }
+traced_read t w a = record { port = (read_width w t.port a).port; touched = t.touched ++ (touch false w a (traced_answer t w a) ∷ []) }
 
 -- an instruction reads nothing once it has written, so what it writes need not be there
 abbrev pub traced_write : Traced → Width → ℕ → ℕ → Traced
-traced_write t w a v = record t { touched = t.touched ++ (touch Write w a v ∷ []) }
+traced_write t w a v = record t { touched = t.touched ++ (touch true w a v ∷ []) }
 
 -- by an instruction, whoever does it
 abbrev pub touches_of : Insn → State → List Touch

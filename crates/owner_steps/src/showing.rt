@@ -15,7 +15,6 @@ ghost use Rattle.owner_steps.specs.internal.Touching.{plan_shown};
 use crate::touching::{Touch, shown_touches};
 use arrayvec::ArrayString;
 use board::Settled;
-use cpu_step::Kind;
 use insn_decode::{Insn, show};
 use sm_words::{Core, Width};
 use texts::{push_decimal, push_hex_byte, push_hex_word};
@@ -112,22 +111,18 @@ fn push_touch(touch: &Touch, lines: &mut ArrayString<160>)
     ensures text { lines.new.bytes ≡ lines.old.bytes ++ spec.touch_line touch.now }
     ensures most { array_string_len lines.new ≤ array_string_len lines.old + 18 }
 {
-    lines.push_str(label_of(touch.access.kind));
-    push_hex_word(touch.access.addr, lines);
+    lines.push_str(label_of(touch.is_write));
+    push_hex_word(touch.addr, lines);
     lines.push_str(" ");
-    push_value(touch.access.width, touch.value, lines);
+    push_value(touch.width, touch.value, lines);
     lines.push_str("\n");
 }
 
-fn label_of(kind: Kind) -> &'static str
-    ensures label { result.now ≡ spec.label_of kind }
+fn label_of(is_write: bool) -> &'static str
+    ensures label { result.now ≡ spec.label_of is_write }
     ensures most { length result.now ≤ 8 }
 {
-    match kind {
-        Kind::Write => "  write ",
-        Kind::Read => "  read ",
-        Kind::Fetch => "  fetch ",
-    }
+    if is_write { "  write " } else { "  read " }
 }
 
 // Appends a value, in two digits for a byte and four for a word.

@@ -2,7 +2,6 @@
 
 ghost use Rattle.std.specs.Prelude.{◌≡◌, IsFalse};
 ghost use Rattle.insn_decode.specs.Code.{IsDecoded, is_unit};
-ghost use Rattle.pc_access.specs.declared.Kind.{Kind as Kinds};
 ghost use Rattle.cpu_step.specs.Plan.{plan};
 ghost use Rattle.cpu_step.specs.Through.{AreAligned};
 ghost use Rattle.written_machine.specs.Ports.{read_byte};
@@ -11,7 +10,7 @@ ghost use Rattle.owner_steps.specs.internal.Touching.{kept_touches, plan_shown, 
 
 use arrayvec::ArrayVec;
 use board::Settled;
-use cpu_step::{Access, Kind, Port, are_aligned, execute, plan};
+use cpu_step::{Port, are_aligned, execute, plan};
 use devices::BusMark;
 use insn_decode::Insn;
 use mod_layout::DEVICES_END;
@@ -20,7 +19,9 @@ use sm_words::Width;
 /// A read or a write, with its value.
 #[derive(Clone, Copy, Debug, Default)]
 pub struct Touch {
-    pub access: Access,
+    pub is_write: bool,
+    pub addr: u16,
+    pub width: Width,
     pub value: u16,
 }
 
@@ -88,13 +89,15 @@ impl Touching<'_> {
         }
     }
 
-    fn keep(&mut self, kind: Kind, addr: u16, width: Width, value: u16)
+    fn keep(&mut self, is_write: bool, addr: u16, width: Width, value: u16)
         ensures { traced_of self.new ≡ record (traced_of self.old)
-            { touched = kept_touches (traced_of self.old).touched (spec.touch kind width addr value) } }
+            { touched = kept_touches (traced_of self.old).touched (spec.touch is_write width addr value) } }
     {
         if !self.touched.is_full() {
             self.touched.push(Touch {
-                access: Access { kind, addr, width },
+                is_write,
+                addr,
+                width,
                 value,
             });
         }
@@ -124,11 +127,11 @@ impl Port for Touching<'_> {
                 u16::from_le_bytes([low, high])
             }
         };
-        self.keep(Kind::Read, addr, width, value);
+        self.keep(false, addr, width, value);
         value
     }
 
     fn write(&mut self, addr: u16, width: Width, value: u16) {
-        self.keep(Kind::Write, addr, width, value);
+        self.keep(true, addr, width, value);
     }
 }

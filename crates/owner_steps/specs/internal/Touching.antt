@@ -1,10 +1,9 @@
 -- What the code's own invariants say of: Touching.
-use Rattle.std.specs.Prelude.{ℕ, nat_lt, if◌then◌else◌, List, [], ◌∷◌, ◌++◌, length}
+use Rattle.std.specs.Prelude.{ℕ, nat_lt, if◌then◌else◌, true, false, List, [], ◌∷◌, ◌++◌, length}
 use Rattle.sm_words.specs.declared.width.Width.{Width}
 use Rattle.insn_decode.specs.declared.insn.Insn.{Insn}
 use Rattle.insn_decode.specs.declared.insn.Insn.TheVariants.{Reti, Unit as UnitOp}
 use Rattle.pc_access.specs.declared.Access.{Access}
-use Rattle.pc_access.specs.declared.Kind.TheVariants.{Read, Write}
 use Rattle.reg_backup.specs.declared.frames.Frame.{Frame}
 use Rattle.reg_backup.specs.declared.frames.Frame.TheVariants.{Module as Held}
 use Rattle.cpu_step.specs.Plan.{plan}
@@ -25,10 +24,10 @@ abbrev pub kept_touches : List Touch → Touch → List Touch
 kept_touches xs x = if nat_lt (length xs) 3 then xs ++ (x ∷ []) else xs
 
 abbrev pub read_kept : Traced → Width → ℕ → Traced
-read_kept t w a = record { port = (read_width w t.port a).port; touched = kept_touches t.touched (touch Read w a (traced_answer t w a)) }
+read_kept t w a = record { port = (read_width w t.port a).port; touched = kept_touches t.touched (touch false w a (traced_answer t w a)) }
 
 abbrev pub write_kept : Traced → Width → ℕ → ℕ → Traced
-write_kept t w a v = record t { touched = kept_touches t.touched (touch Write w a v) }
+write_kept t w a v = record t { touched = kept_touches t.touched (touch true w a v) }
 
 -- the plan of what is shown
 abbrev pub plan_shown : Insn → List Frame → List ℕ → List Access
