@@ -24,42 +24,38 @@ unread : (op : TwoOp) (w : Width) (a b c : ℕ) → two_result op w a (old_value
 unread Mov w a b c = refl
 unread _ w a b c = refl
 
-module _ (insn : Insn) (core values : List ℕ) where
+module _ (core values : List ℕ) where
   pub two_form : (op : TwoOp) (w : Width) (s d : Operand) (core1 core2 : List ℕ) (a b c : ℕ) (r : Computed) →
-      insn ≡ Two op w s d → core1 ≡ past insn core → a ≡ given s w core1 values → core2 ≡ stepped w s core1 →
+      core1 ≡ past (Two op w s d) core → a ≡ given s w core1 values → core2 ≡ stepped w s core1 →
       b ≡ old_value (reads_dst op) (given d w core2 (after_given s values)) → c ≡ bit CARRY (reg core SR) → r ≡ two_result op w a b c →
-      written (writes_dst op) d r core2 ≡ does_freely insn core values
+      written (writes_dst op) d r core2 ≡ does_freely (Two op w s d) core values
   unfolding does_freely
-  two_form op w s d core1 core2 a b c r e0 e1 ea e2 eb ec er =
+  two_form op w s d core1 core2 a b c r e1 ea e2 eb ec er =
       let out : Computed → List ℕ → Done = λ r y. written (writes_dst op) d r y in
       let old : List ℕ → ℕ = λ y. given d w y (after_given s values) in
-      let first : core1 ≡ past (Two op w s d) core = e1 ∙ ap (λ i. past i core) e0 in
       ap (λ r. out r core2) er
       ∙ ap (λ x. out (two_result op w a b x) core2) ec
       ∙ ap (λ x. out (two_result op w a x (bit CARRY (reg core SR))) core2) eb
       ∙ ap (λ x. out x core2) (unread op w a (old core2) (bit CARRY (reg core SR)))
       ∙ ap (λ x. out (two_result op w x (old core2) (bit CARRY (reg core SR))) core2) ea
       ∙ ap (λ y. out (two_result op w (given s w core1 values) (old y) (bit CARRY (reg core SR))) y) e2
-      ∙ ap (λ x. out (two_result op w (given s w x values) (old (stepped w s x)) (bit CARRY (reg core SR))) (stepped w s x)) first
-      ∙ sym (ap (λ i. does_freely i core values) e0)
+      ∙ ap (λ x. out (two_result op w (given s w x values) (old (stepped w s x)) (bit CARRY (reg core SR))) (stepped w s x)) e1
 
   pub one_form : (op : OneOp) (w : Width) (arg : Operand) (core1 core2 : List ℕ) (a c : ℕ) →
-      insn ≡ One op w arg → core1 ≡ past insn core → a ≡ given arg w core1 values → core2 ≡ stepped w arg core1 → c ≡ bit CARRY (reg core SR) →
-      one_done op w arg a c core2 ≡ does_freely insn core values
+      core1 ≡ past (One op w arg) core → a ≡ given arg w core1 values → core2 ≡ stepped w arg core1 → c ≡ bit CARRY (reg core SR) →
+      one_done op w arg a c core2 ≡ does_freely (One op w arg) core values
   unfolding does_freely
-  one_form op w arg core1 core2 a c e0 e1 ea e2 ec =
-      let first : core1 ≡ past (One op w arg) core = e1 ∙ ap (λ i. past i core) e0 in
+  one_form op w arg core1 core2 a c e1 ea e2 ec =
       ap (λ x. one_done op w arg a x core2) ec
       ∙ ap (λ x. one_done op w arg x (bit CARRY (reg core SR)) core2) ea
       ∙ ap (λ y. one_done op w arg (given arg w core1 values) (bit CARRY (reg core SR)) y) e2
-      ∙ ap (λ x. one_done op w arg (given arg w x values) (bit CARRY (reg core SR)) (stepped w arg x)) first
-      ∙ sym (ap (λ i. does_freely i core values) e0)
+      ∙ ap (λ x. one_done op w arg (given arg w x values) (bit CARRY (reg core SR)) (stepped w arg x)) e1
 
-  pub jump_form : (condition : Condition) (offset : ℤ) (core1 : List ℕ) (t : Bool) →
+  pub jump_form : (insn : Insn) (condition : Condition) (offset : ℤ) (core1 : List ℕ) (t : Bool) →
       insn ≡ Jump condition offset → core1 ≡ past insn core → t ≡ jumps condition (reg core SR) →
       jumped t offset core1 ≡ (does_freely insn core values).core
   unfolding does_freely
-  jump_form condition offset core1 t e0 e1 et =
+  jump_form insn condition offset core1 t e0 e1 et =
       ap (λ x. jumped x offset core1) et
       ∙ ap (jumped (jumps condition (reg core SR)) offset) (e1 ∙ ap (λ i. past i core) e0)
       ∙ sym (ap (λ i. (does_freely i core values).core) e0)

@@ -172,9 +172,9 @@ module _ {S : Type 0} (answer : S → Width → ℕ → ℕ) (after_read : S →
       ∙ ap (given d w core) (append-nil (Reads s (access_if true Read w pb)).values)
       ∙ ap (λ (b : Bool). old_value b (given d w core (Reads s (access_if b Read w pb)).values)) (sym h ∙ e)
 
-  pub two_through : (insn : Insn) (core : List ℕ) (s0 : S) (op : TwoOp) (w : Width) (s d : Operand) (core1 core2 core3 : List ℕ)
+  pub two_through : (core : List ℕ) (s0 : S) (op : TwoOp) (w : Width) (s d : Operand) (core1 core2 core3 : List ℕ)
       (x1 x2 : ℕ) (pa pb : Option ℕ) (a b c : ℕ) (r : Computed) (s1 s2 s3 : S) →
-      insn ≡ Two op w s d → core1 ≡ past insn core → x1 ≡ add16 (reg core PC) 2 → pa ≡ place s core1 x1 → core2 ≡ stepped w s core1 →
+      core1 ≡ past (Two op w s d) core → x1 ≡ add16 (reg core PC) 2 → pa ≡ place s core1 x1 → core2 ≡ stepped w s core1 →
       x2 ≡ add16 x1 (2 * words_of s) → pb ≡ place d core2 x2 →
       ((rest : List ℕ) → a ≡ given s w core1 ((Reads s0 (access_if true Read w pa)).values ++ rest)) →
       s1 ≡ (Reads s0 (access_if true Read w pa)).state →
@@ -183,8 +183,9 @@ module _ {S : Type 0} (answer : S → Width → ℕ → ℕ) (after_read : S →
       c ≡ bit CARRY (reg core SR) → r ≡ two_result op w a b c →
       core3 ≡ (written (writes_dst op) d r core2).core →
       s3 ≡ stored_in after_write s2 (access_if (writes_dst op) Write w pb) (written (writes_dst op) d r core2).stored →
-      (core3 ≡ (freely_through answer after_read after_write insn core s0).core) × (s3 ≡ (freely_through answer after_read after_write insn core s0).state)
-  two_through insn core s0 op w s d core1 core2 core3 x1 x2 pa pb a b c r s1 s2 s3 e0 e1 f1 epa e2 f2 epb ea es1 eb es2 ec er e3 es3 =
+      (core3 ≡ (freely_through answer after_read after_write (Two op w s d) core s0).core) × (s3 ≡ (freely_through answer after_read after_write (Two op w s d) core s0).state)
+  two_through core s0 op w s d core1 core2 core3 x1 x2 pa pb a b c r s1 s2 s3 e1 f1 epa e2 f2 epb ea es1 eb es2 ec er e3 es3 =
+      let insn : Insn = Two op w s d in
       let rd : Bool = reads_dst op in
       let wr : Bool = writes_dst op in
       let xa : List Access = access_if true Read w pa in
@@ -192,7 +193,7 @@ module _ {S : Type 0} (answer : S → Width → ℕ → ℕ) (after_read : S →
       let xw : List Access = access_if wr Write w pb in
       let vb : List ℕ = (Reads s1 xb).values in
       let ps : List Access = plan insn core in
-      let planned : (xa ++ xb) ++ xw ≡ ps = plan_two_form insn core op w s d core1 core2 x1 x2 pa pb e0 e1 f1 epa e2 f2 epb in
+      let planned : (xa ++ xb) ++ xw ≡ ps = plan_two_form insn core op w s d core1 core2 x1 x2 pa pb refl e1 f1 epa e2 f2 epb in
       let whole : Taken S = Reads s0 (reads_of ps) in
       let both : Taken S = record { values = (Reads s0 xa).values ++ vb; state = s2 } in
       let t1 : whole ≡ Reads s0 (xa ++ xb) = ap (Reads s0) (ap reads_of (sym planned) ∙ two_reads pa pb rd wr w) in
@@ -206,7 +207,7 @@ module _ {S : Type 0} (answer : S → Width → ℕ → ℕ) (after_read : S →
       let left : after_given s whole.values ≡ vb = ap (after_given s) v ∙ left_of s pa w s0 vb (in_place s core1 x1 pa epa) in
       let old : b ≡ old_value rd (given d w core2 (after_given s whole.values)) = eb ∙ ap (λ (z : List ℕ). old_value rd (given d w core2 z)) (sym left) in
       let done : written wr d r core2 ≡ does_freely insn core whole.values =
-      two_form insn core whole.values op w s d core1 core2 a b c r e0 e1 source e2 old ec er in
+      two_form core whole.values op w s d core1 core2 a b c r e1 source e2 old ec er in
       let puts : xw ≡ writes_of ps = sym (two_writes pa pb rd wr w) ∙ ap writes_of planned in (
         e3 ∙ ap (λ (z : Done). z.core) done,
         es3 ∙ ap (λ (z : Done). stored_in after_write s2 xw z.stored) done
@@ -214,27 +215,28 @@ module _ {S : Type 0} (answer : S → Width → ℕ → ℕ) (after_read : S →
             ∙ ap (λ (z : List Access). stored_in after_write whole.state z (does_freely insn core whole.values).stored) puts,
       )
 
-  pub one_through : (insn : Insn) (core : List ℕ) (s0 : S) (op : OneOp) (w : Width) (arg : Operand) (core1 core2 core3 : List ℕ)
+  pub one_through : (core : List ℕ) (s0 : S) (op : OneOp) (w : Width) (arg : Operand) (core1 core2 core3 : List ℕ)
       (x1 : ℕ) (pa : Option ℕ) (a c : ℕ) (s1 s2 : S) →
-      insn ≡ One op w arg → core1 ≡ past insn core → x1 ≡ add16 (reg core PC) 2 → pa ≡ place arg core1 x1 → core2 ≡ stepped w arg core1 →
+      core1 ≡ past (One op w arg) core → x1 ≡ add16 (reg core PC) 2 → pa ≡ place arg core1 x1 → core2 ≡ stepped w arg core1 →
       ((rest : List ℕ) → a ≡ given arg w core1 ((Reads s0 (access_if true Read w pa)).values ++ rest)) →
       s1 ≡ (Reads s0 (access_if true Read w pa)).state →
       c ≡ bit CARRY (reg core SR) →
       core3 ≡ (one_done op w arg a c core2).core →
       s2 ≡ stored_in after_write s1 (one_writes op w pa (reg (lowered core2) SP)) (one_done op w arg a c core2).stored →
-      (core3 ≡ (freely_through answer after_read after_write insn core s0).core) × (s2 ≡ (freely_through answer after_read after_write insn core s0).state)
-  one_through insn core s0 op w arg core1 core2 core3 x1 pa a c s1 s2 e0 e1 f1 epa e2 ea es1 ec e3 es2 =
+      (core3 ≡ (freely_through answer after_read after_write (One op w arg) core s0).core) × (s2 ≡ (freely_through answer after_read after_write (One op w arg) core s0).state)
+  one_through core s0 op w arg core1 core2 core3 x1 pa a c s1 s2 e1 f1 epa e2 ea es1 ec e3 es2 =
+      let insn : Insn = One op w arg in
       let sp : ℕ = reg (lowered core2) SP in
       let xa : List Access = access_if true Read w pa in
       let xw : List Access = one_writes op w pa sp in
       let ps : List Access = plan insn core in
-      let planned : xa ++ xw ≡ ps = plan_one_form insn core op w arg core1 core2 (lowered core2) x1 pa sp e0 e1 f1 epa e2 refl refl in
+      let planned : xa ++ xw ≡ ps = plan_one_form insn core op w arg core1 core2 (lowered core2) x1 pa sp refl e1 f1 epa e2 refl refl in
       let whole : Taken S = Reads s0 (reads_of ps) in
       let t : whole ≡ Reads s0 xa = ap (Reads s0) (ap reads_of (sym planned) ∙ one_reads pa op w sp) in
       let v : whole.values ≡ (Reads s0 xa).values ++ [] = ap (λ (z : Taken S). z.values) t ∙ sym (append-nil (Reads s0 xa).values) in
       let source : a ≡ given arg w core1 whole.values = ea [] ∙ ap (given arg w core1) (sym v) in
       let done : one_done op w arg a c core2 ≡ does_freely insn core whole.values =
-      one_form insn core whole.values op w arg core1 core2 a c e0 e1 source e2 ec in
+      one_form core whole.values op w arg core1 core2 a c e1 source e2 ec in
       let puts : xw ≡ writes_of ps = sym (one_writes_of pa op w sp) ∙ ap writes_of planned in (
         e3 ∙ ap (λ (z : Done). z.core) done,
         es2 ∙ ap (λ (z : Done). stored_in after_write s1 xw z.stored) done
@@ -244,39 +246,39 @@ module _ {S : Type 0} (answer : S → Width → ℕ → ℕ) (after_read : S →
 
 -- ---- alignment of what an instruction plans
 
-pub two_aligned : (insn : Insn) (core : List ℕ) (op : TwoOp) (w : Width) (s d : Operand) (core1 core2 : List ℕ) (x1 x2 : ℕ) (pa pb : Option ℕ) →
-    AreAligned (plan insn core) → insn ≡ Two op w s d → core1 ≡ past insn core → x1 ≡ add16 (reg core PC) 2 → pa ≡ place s core1 x1 → core2 ≡ stepped w s core1 →
+pub two_aligned : (core : List ℕ) (op : TwoOp) (w : Width) (s d : Operand) (core1 core2 : List ℕ) (x1 x2 : ℕ) (pa pb : Option ℕ) →
+    AreAligned (plan (Two op w s d) core) → core1 ≡ past (Two op w s d) core → x1 ≡ add16 (reg core PC) 2 → pa ≡ place s core1 x1 → core2 ≡ stepped w s core1 →
     x2 ≡ add16 x1 (2 * words_of s) → pb ≡ place d core2 x2 → IsAligned w pb
-two_aligned insn core op w s d core1 core2 x1 x2 pa pb h e0 e1 f1 epa e2 f2 epb =
+two_aligned core op w s d core1 core2 x1 x2 pa pb h e1 f1 epa e2 f2 epb =
     let xb : List Access = access_if (reads_dst op) Read w pb ++ access_if (writes_dst op) Write w pb in
-    let planned : (access_if true Read w pa ++ access_if (reads_dst op) Read w pb) ++ access_if (writes_dst op) Write w pb ≡ plan insn core =
-    plan_two_form insn core op w s d core1 core2 x1 x2 pa pb e0 e1 f1 epa e2 f2 epb in
+    let planned : (access_if true Read w pa ++ access_if (reads_dst op) Read w pb) ++ access_if (writes_dst op) Write w pb ≡ plan (Two op w s d) core =
+    plan_two_form (Two op w s d) core op w s d core1 core2 x1 x2 pa pb refl e1 f1 epa e2 f2 epb in
     second_aligned pb (reads_dst op) (writes_dst op) w (touches_dst op)
     (rest_aligned pa w xb (subst AreAligned (sym planned ∙ regrouped pa pb (reads_dst op) (writes_dst op) w) h))
 
-pub source_aligned : (insn : Insn) (core : List ℕ) (op : TwoOp) (w : Width) (s d : Operand) (core1 : List ℕ) (x1 : ℕ) (pa : Option ℕ) →
-    AreAligned (plan insn core) → insn ≡ Two op w s d → core1 ≡ past insn core → x1 ≡ add16 (reg core PC) 2 → pa ≡ place s core1 x1 → IsAligned w pa
-source_aligned insn core op w s d core1 x1 pa h e0 e1 f1 epa =
+pub source_aligned : (core : List ℕ) (op : TwoOp) (w : Width) (s d : Operand) (core1 : List ℕ) (x1 : ℕ) (pa : Option ℕ) →
+    AreAligned (plan (Two op w s d) core) → core1 ≡ past (Two op w s d) core → x1 ≡ add16 (reg core PC) 2 → pa ≡ place s core1 x1 → IsAligned w pa
+source_aligned core op w s d core1 x1 pa h e1 f1 epa =
     let core2 : List ℕ = stepped w s core1 in
     let x2 : ℕ = add16 x1 (2 * words_of s) in
     let pb : Option ℕ = place d core2 x2 in
-    let planned : (access_if true Read w pa ++ access_if (reads_dst op) Read w pb) ++ access_if (writes_dst op) Write w pb ≡ plan insn core =
-    plan_two_form insn core op w s d core1 core2 x1 x2 pa pb e0 e1 f1 epa refl refl refl in
+    let planned : (access_if true Read w pa ++ access_if (reads_dst op) Read w pb) ++ access_if (writes_dst op) Write w pb ≡ plan (Two op w s d) core =
+    plan_two_form (Two op w s d) core op w s d core1 core2 x1 x2 pa pb refl e1 f1 epa refl refl refl in
     first_aligned pa w (access_if (reads_dst op) Read w pb ++ access_if (writes_dst op) Write w pb)
     (subst AreAligned (sym planned ∙ regrouped pa pb (reads_dst op) (writes_dst op) w) h)
 
-pub one_aligned : (insn : Insn) (core : List ℕ) (op : OneOp) (w : Width) (arg : Operand) (core1 : List ℕ) (x1 : ℕ) (pa : Option ℕ) →
-    AreAligned (plan insn core) → insn ≡ One op w arg → core1 ≡ past insn core → x1 ≡ add16 (reg core PC) 2 → pa ≡ place arg core1 x1 → IsAligned w pa
-one_aligned insn core op w arg core1 x1 pa h e0 e1 f1 epa =
+pub one_aligned : (core : List ℕ) (op : OneOp) (w : Width) (arg : Operand) (core1 : List ℕ) (x1 : ℕ) (pa : Option ℕ) →
+    AreAligned (plan (One op w arg) core) → core1 ≡ past (One op w arg) core → x1 ≡ add16 (reg core PC) 2 → pa ≡ place arg core1 x1 → IsAligned w pa
+one_aligned core op w arg core1 x1 pa h e1 f1 epa =
     let core2 : List ℕ = stepped w arg core1 in
     let sp : ℕ = reg (lowered core2) SP in
     first_aligned pa w (one_writes op w pa sp)
-    (subst AreAligned (sym (plan_one_form insn core op w arg core1 core2 (lowered core2) x1 pa sp e0 e1 f1 epa refl refl refl)) h)
+    (subst AreAligned (sym (plan_one_form (One op w arg) core op w arg core1 core2 (lowered core2) x1 pa sp refl e1 f1 epa refl refl refl)) h)
 
-pub put_aligned : (insn : Insn) (core : List ℕ) (op : OneOp) (w : Width) (arg : Operand) (core1 core2 : List ℕ) (x1 : ℕ) (pa : Option ℕ) →
-    AreAligned (plan insn core) → insn ≡ One op w arg → core1 ≡ past insn core → x1 ≡ add16 (reg core PC) 2 → pa ≡ place arg core1 x1 → core2 ≡ stepped w arg core1 →
+pub put_aligned : (core : List ℕ) (op : OneOp) (w : Width) (arg : Operand) (core1 core2 : List ℕ) (x1 : ℕ) (pa : Option ℕ) →
+    AreAligned (plan (One op w arg) core) → core1 ≡ past (One op w arg) core → x1 ≡ add16 (reg core PC) 2 → pa ≡ place arg core1 x1 → core2 ≡ stepped w arg core1 →
     AreAligned (one_writes op w pa (reg (lowered core2) SP))
-put_aligned insn core op w arg core1 core2 x1 pa h e0 e1 f1 epa e2 =
+put_aligned core op w arg core1 core2 x1 pa h e1 f1 epa e2 =
     let sp : ℕ = reg (lowered core2) SP in
     rest_aligned pa w (one_writes op w pa sp)
-    (subst AreAligned (sym (plan_one_form insn core op w arg core1 core2 (lowered core2) x1 pa sp e0 e1 f1 epa e2 refl refl)) h)
+    (subst AreAligned (sym (plan_one_form (One op w arg) core op w arg core1 core2 (lowered core2) x1 pa sp refl e1 f1 epa e2 refl refl)) h)

@@ -104,23 +104,20 @@ pub fn places(
     (source, destination)
 }
 
-/// Adds the accesses of an instruction of format I to none: the source is read, the increment is done, the
-/// destination is read and written.
+/// Adds the accesses of an instruction of format I to none, whose operands stand at these places: the source is read,
+/// the destination is read and written.
 #[inline(always)]
-fn plan_two(
-    insn: &Insn,
+fn add_two(
+    accesses: &mut ArrayVec<Access, 3>,
     op: TwoOp,
     width: Width,
-    src: Operand,
-    dst: Operand,
-    core: &Core,
-    accesses: &mut ArrayVec<Access, 3>,
+    source: Option<u16>,
+    destination: Option<u16>,
 )
-    requires form { insn.now ≡ Insn.Two op width src dst }
     requires none { accesses.old.items ≡ [] }
-    ensures { accesses.new.items ≡ plan insn.now core.now }
+    ensures { accesses.new.items ≡ access_if true Read width source
+        ++ access_if (reads_dst op) Read width destination ++ access_if (writes_dst op) Write width destination }
 {
-    let (source, destination) = places(insn, op, width, src, dst, core);
     add_access(accesses, true, Kind::Read, width, source);
     add_access(
         accesses,
@@ -214,7 +211,10 @@ pub fn add_plan(insn: &Insn, core: &Core, accesses: &mut ArrayVec<Access, 3>)
             width,
             src,
             dst,
-        } => plan_two(insn, op, width, src, dst, core, accesses),
+        } => {
+            let (source, destination) = places(insn, op, width, src, dst, core);
+            add_two(accesses, op, width, source, destination);
+        }
         Insn::One { op, width, arg } => plan_one(insn, op, width, arg, core, accesses),
         Insn::Reti => plan_reti(core, accesses),
         Insn::Jump { .. } | Insn::Unit(_) => {}

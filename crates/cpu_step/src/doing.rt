@@ -21,76 +21,65 @@ use crate::result::{Computed, one_result, two_result};
 use insn_decode::{Insn, OneOp, Operand, TwoOp};
 use sm_words::{Core, PC, SP, SR, Width};
 
-/// The value that an operand gives: it is read at `place`, where it stands in memory.
+/// An operand, a byte or a word, and where it stands in memory, if it does.
+#[derive(Clone, Copy)]
+struct Placed {
+    operand: Operand,
+    width: Width,
+    place: Option<u16>,
+}
+
+/// The value that an operand gives: it is read where it stands in memory.
 #[inline(always)]
 #[tactic(auto, using(crate::proofs::ThroughLemmas::given_read))]
-fn take<P: Port>(
-    operand: Operand,
-    place: Option<u16>,
-    width: Width,
-    core: &Core,
-    port: &mut P,
-) -> u16
-    requires place { in_memory operand ≡ is_some place }
-    requires aligned { IfSome place (λ addr. IsFalse (misaligned width addr)) }
-    ensures value { (rest : List ℕ) → result ≡ given operand width core.now
-        ((taken P.answer P.after_read (P.state port.old) (access_if true Read width place)).values ++ rest) }
+fn take<P: Port>(from: Placed, core: &Core, port: &mut P) -> u16
+    requires place { in_memory from.operand ≡ is_some from.place }
+    requires aligned { IfSome from.place (λ addr. IsFalse (misaligned from.width addr)) }
+    ensures value { (rest : List ℕ) → result ≡ given from.operand from.width core.now
+        ((taken P.answer P.after_read (P.state port.old) (access_if true Read from.width from.place)).values ++ rest) }
     ensures state { P.state port.new
-        ≡ (taken P.answer P.after_read (P.state port.old) (access_if true Read width place)).state }
+        ≡ (taken P.answer P.after_read (P.state port.old) (access_if true Read from.width from.place)).state }
 {
-    match place {
-        Some(addr) => width.low(port.read(addr, width)),
-        None => at_hand(operand, width, core),
+    match from.place {
+        Some(addr) => from.width.low(port.read(addr, from.width)),
+        None => at_hand(from.operand, from.width, core),
     }
 }
 
 /// The old value of the destination, where it is read, and else 0.
 #[inline(always)]
-fn take_old<P: Port>(
-    op: TwoOp,
-    dst: Operand,
-    place: Option<u16>,
-    width: Width,
-    core: &Core,
-    port: &mut P,
-) -> u16
-    requires place { in_memory dst ≡ is_some place }
-    requires aligned { IfSome place (λ addr. IsFalse (misaligned width addr)) }
-    ensures value { result ≡ old_value (reads_dst op) (given dst width core.now
-        (taken P.answer P.after_read (P.state port.old) (access_if (reads_dst op) Read width place)).values) }
+fn take_old<P: Port>(op: TwoOp, dst: Placed, core: &Core, port: &mut P) -> u16
+    requires place { in_memory dst.operand ≡ is_some dst.place }
+    requires aligned { IfSome dst.place (λ addr. IsFalse (misaligned dst.width addr)) }
+    ensures value { result ≡ old_value (reads_dst op) (given dst.operand dst.width core.now
+        (taken P.answer P.after_read (P.state port.old) (access_if (reads_dst op) Read dst.width dst.place)).values) }
     ensures state { P.state port.new
-        ≡ (taken P.answer P.after_read (P.state port.old) (access_if (reads_dst op) Read width place)).state }
+        ≡ (taken P.answer P.after_read (P.state port.old) (access_if (reads_dst op) Read dst.width dst.place)).state }
 {
     if reads_destination(op) {
-        take(dst, place, width, core, port)
+        take(dst, core, port)
     } else {
         0
     }
 }
 
-/// Writes a result into its operand, which stands in memory at `place`, if it has one.
+/// Writes a result into its operand.
 #[inline(always)]
 #[tactic(auto, using(crate::proofs::ThroughLemmas::written_there))]
-fn write_result<P: Port>(
-    operand: Operand,
-    place: Option<u16>,
-    width: Width,
-    computed: &Computed,
-    core: &mut Core,
-    port: &mut P,
-)
-    requires place { in_memory operand ≡ is_some place }
-    requires aligned { IfSome place (λ addr. IsFalse (misaligned width addr)) }
-    ensures core { core.new ≡ (written true operand computed.now core.old).core }
-    ensures state { P.state port.new ≡ stored_in P.after_write (P.state port.old) (access_if true Write width place)
-        (written true operand computed.now core.old).stored }
+fn write_result<P: Port>(to: Placed, computed: &Computed, core: &mut Core, port: &mut P)
+    requires place { in_memory to.operand ≡ is_some to.place }
+    requires aligned { IfSome to.place (λ addr. IsFalse (misaligned to.width addr)) }
+    ensures core { core.new ≡ (written true to.operand computed.now core.old).core }
+    ensures state { P.state port.new
+        ≡ stored_in P.after_write (P.state port.old) (access_if true Write to.width to.place)
+        (written true to.operand computed.now core.old).stored }
 {
-    match place {
+    match to.place {
         Some(addr) => {
             set_flags(computed, core);
-            port.write(addr, width, computed.value());
+            port.write(addr, to.width, computed.value());
         }
-        None => match operand {
+        None => match to.operand {
             Operand::Reg(reg) => put_result(reg, computed, core),
             _ => set_flags(computed, core),
         },
@@ -99,24 +88,16 @@ fn write_result<P: Port>(
 
 /// Format I, with its result: it is written into the destination, or sets the flags alone.
 #[inline(always)]
-fn finish_two<P: Port>(
-    op: TwoOp,
-    dst: Operand,
-    place: Option<u16>,
-    width: Width,
-    computed: &Computed,
-    core: &mut Core,
-    port: &mut P,
-)
-    requires place { in_memory dst ≡ is_some place }
-    requires aligned { IfSome place (λ addr. IsFalse (misaligned width addr)) }
-    ensures core { core.new ≡ (written (writes_dst op) dst computed.now core.old).core }
+fn finish_two<P: Port>(op: TwoOp, dst: Placed, computed: &Computed, core: &mut Core, port: &mut P)
+    requires place { in_memory dst.operand ≡ is_some dst.place }
+    requires aligned { IfSome dst.place (λ addr. IsFalse (misaligned dst.width addr)) }
+    ensures core { core.new ≡ (written (writes_dst op) dst.operand computed.now core.old).core }
     ensures state { P.state port.new
-        ≡ stored_in P.after_write (P.state port.old) (access_if (writes_dst op) Write width place)
-        (written (writes_dst op) dst computed.now core.old).stored }
+        ≡ stored_in P.after_write (P.state port.old) (access_if (writes_dst op) Write dst.width dst.place)
+        (written (writes_dst op) dst.operand computed.now core.old).stored }
 {
     if writes_destination(op) {
-        write_result(dst, place, width, computed, core, port);
+        write_result(dst, computed, core, port);
     } else {
         set_flags(computed, core);
     }
@@ -125,7 +106,6 @@ fn finish_two<P: Port>(
 /// Format I: the source is read, its increment is done, and the destination is read and written.
 #[inline(always)]
 fn do_two<P: Port>(
-    insn: &Insn,
     op: TwoOp,
     width: Width,
     src: Operand,
@@ -133,85 +113,93 @@ fn do_two<P: Port>(
     core: &mut Core,
     port: &mut P,
 )
-    requires form { insn.now ≡ Insn.Two op width src dst }
-    requires aligned { AreAligned (plan insn.now core.old) }
-    ensures core { core.new
-        ≡ (freely_through P.answer P.after_read P.after_write insn.now core.old (P.state port.old)).core }
-    ensures state { P.state port.new
-        ≡ (freely_through P.answer P.after_read P.after_write insn.now core.old (P.state port.old)).state }
+    requires aligned { AreAligned (plan (Insn.Two op width src dst) core.old) }
+    ensures core { core.new ≡ (freely_through P.answer P.after_read P.after_write (Insn.Two op width src dst) core.old
+        (P.state port.old)).core }
+    ensures state { P.state port.new ≡ (freely_through P.answer P.after_read P.after_write (Insn.Two op width src dst)
+        core.old (P.state port.old)).state }
 {
+    let insn = Insn::Two {
+        op,
+        width,
+        src,
+        dst,
+    };
     let carry = carry(core);
     let extension = extension(core);
-    step_past(insn, core);
-    let source_place = place(src, core, extension);
-    let source = take(src, source_place, width, core, port);
+    step_past(&insn, core);
+    let from = Placed {
+        operand: src,
+        width,
+        place: place(src, core, extension),
+    };
+    let source = take(from, core, port);
     increment(width, src, core);
-    let old_place = place(dst, core, second_extension(extension, src));
-    let old = take_old(op, dst, old_place, width, core, port);
+    let to = Placed {
+        operand: dst,
+        width,
+        place: place(dst, core, second_extension(extension, src)),
+    };
+    let old = take_old(op, to, core, port);
     let computed = two_result(op, width, source, old, carry);
-    finish_two(op, dst, old_place, width, &computed, core, port);
+    finish_two(op, to, &computed, core, port);
 }
 
-/// Format II, where the operand is read and its increment is done: PUSH and CALL store at the lowered SP.
+/// Format II, where the operand's value is read and its increment is done: PUSH and CALL store at the lowered SP.
 fn finish_one<P: Port>(
     op: OneOp,
-    width: Width,
-    arg: Operand,
-    place: Option<u16>,
-    operand: u16,
+    arg: Placed,
+    value: u16,
     carry: bool,
     core: &mut Core,
     port: &mut P,
 )
-    requires place { in_memory arg ≡ is_some place }
-    requires even { IfSome place (λ addr. IsFalse (misaligned width addr)) }
-    requires aligned { AreAligned (one_writes op width place (reg (lowered core.old) SP)) }
-    ensures core { core.new ≡ (one_done op width arg operand (one_if carry) core.old).core }
-    ensures state { P.state port.new
-        ≡ stored_in P.after_write (P.state port.old) (one_writes op width place (reg (lowered core.old) SP))
-        (one_done op width arg operand (one_if carry) core.old).stored }
+    requires place { in_memory arg.operand ≡ is_some arg.place }
+    requires even { IfSome arg.place (λ addr. IsFalse (misaligned arg.width addr)) }
+    requires aligned { AreAligned (one_writes op arg.width arg.place (reg (lowered core.old) SP)) }
+    ensures core { core.new ≡ (one_done op arg.width arg.operand value (one_if carry) core.old).core }
+    ensures state { P.state port.new ≡ stored_in P.after_write (P.state port.old)
+        (one_writes op arg.width arg.place (reg (lowered core.old) SP))
+        (one_done op arg.width arg.operand value (one_if carry) core.old).stored }
 {
     match op {
         OneOp::Push => {
             lower(core);
-            port.write(core.sp(), width, operand);
+            port.write(core.sp(), arg.width, value);
         }
         OneOp::Call => {
             let next = core.pc();
             lower(core);
             port.write(core.sp(), Width::Word, next);
-            core.put(PC, operand);
+            core.put(PC, value);
         }
         OneOp::Rrc | OneOp::Swpb | OneOp::Rra | OneOp::Sxt => {
-            let computed = one_result(op, width, operand, carry);
-            write_result(arg, place, width, &computed, core, port);
+            let computed = one_result(op, arg.width, value, carry);
+            write_result(arg, &computed, core, port);
         }
     }
 }
 
 /// Format II: the operand is read, its increment is done, and the result is written.
-fn do_one<P: Port>(
-    insn: &Insn,
-    op: OneOp,
-    width: Width,
-    arg: Operand,
-    core: &mut Core,
-    port: &mut P,
-)
-    requires form { insn.now ≡ Insn.One op width arg }
-    requires aligned { AreAligned (plan insn.now core.old) }
-    ensures core { core.new
-        ≡ (freely_through P.answer P.after_read P.after_write insn.now core.old (P.state port.old)).core }
-    ensures state { P.state port.new
-        ≡ (freely_through P.answer P.after_read P.after_write insn.now core.old (P.state port.old)).state }
+fn do_one<P: Port>(op: OneOp, width: Width, arg: Operand, core: &mut Core, port: &mut P)
+    requires aligned { AreAligned (plan (Insn.One op width arg) core.old) }
+    ensures core { core.new ≡ (freely_through P.answer P.after_read P.after_write (Insn.One op width arg) core.old
+        (P.state port.old)).core }
+    ensures state { P.state port.new ≡ (freely_through P.answer P.after_read P.after_write (Insn.One op width arg)
+        core.old (P.state port.old)).state }
 {
+    let insn = Insn::One { op, width, arg };
     let carry = carry(core);
     let extension = extension(core);
-    step_past(insn, core);
-    let place = place(arg, core, extension);
-    let operand = take(arg, place, width, core, port);
+    step_past(&insn, core);
+    let placed = Placed {
+        operand: arg,
+        width,
+        place: place(arg, core, extension),
+    };
+    let value = take(placed, core, port);
     increment(width, arg, core);
-    finish_one(op, width, arg, place, operand, carry, core, port);
+    finish_one(op, placed, value, carry, core, port);
 }
 
 /// RETI: SR and PC are read at SP, which rises by 4.
@@ -247,8 +235,8 @@ pub fn do_freely<P: Port>(insn: &Insn, core: &mut Core, port: &mut P)
             width,
             src,
             dst,
-        } => do_two(insn, op, width, src, dst, core, port),
-        Insn::One { op, width, arg } => do_one(insn, op, width, arg, core, port),
+        } => do_two(op, width, src, dst, core, port),
+        Insn::One { op, width, arg } => do_one(op, width, arg, core, port),
         Insn::Jump { condition, offset } => do_jump(insn, condition, offset, core),
         Insn::Reti => do_reti(core, port),
         Insn::Unit(_) => step_past(insn, core),

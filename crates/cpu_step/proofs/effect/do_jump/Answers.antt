@@ -9,4 +9,4 @@ returns c = λ values.
     let taken = c.jumps-taken.ensures ∙ ap (jumps c.args.condition) c.sr.ensures.sr in
     c.jump.ensures
     ∙ ap (λ z. jumped c.jumps-taken.result z c.step_past.new.core) (to_z-of_z w16 c.args.offset c.ranges.offset)
-    ∙ jump_form c.args.insn.now c.args.core.now values c.args.condition c.args.offset _ _ c.requires c.step_past.ensures taken
+    ∙ jump_form c.args.core.now values c.args.insn.now c.args.condition c.args.offset _ _ c.requires c.step_past.ensures taken
