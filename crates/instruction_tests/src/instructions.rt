@@ -11,6 +11,8 @@ use pc_access::{Access, Kind};
 use sm_words::{Core, Width};
 use std::process::Abort;
 
+mod in_memory;
+
 /// A call of the memory, with the value that it gave or took.
 #[derive(Clone, Copy, Debug, Default, PartialEq, Eq)]
 struct Call {
@@ -120,15 +122,22 @@ fn is_unit(insn: &Insn) -> bool
     matches!(insn, Insn::Unit(_))
 }
 
+/// A core, and its memory.
+#[derive(Drop)]
+struct Machine {
+    core: Core,
+    memory: Recorder,
+}
+
 /// Decodes and executes, and gives the cycles; `None` for what `execute` does not take.
-fn run(code: [u16; 3], core: &mut Core, memory: &mut Recorder, inside: bool) -> Option<u8> {
+fn run(machine: &mut Machine, code: [u16; 3], inside: bool) -> Option<u8> {
     let [first, second, third] = code;
     let insn = decode(first, second, third)?;
-    let planned = plan(&insn, core);
+    let planned = plan(&insn, &machine.core);
     if is_unit(&insn) || !are_aligned(planned.as_slice()) {
         return None;
     }
-    Some(execute(&insn, core, memory, inside))
+    Some(execute(&insn, &mut machine.core, &mut machine.memory, inside))
 }
 
 /// The accesses of an instruction at 0x0200 with SP 0x0300 and R5 0x0310.
@@ -151,36 +160,34 @@ fn seen(core: &Core) -> [u16; 6] {
     [0, 1, 2, 4, 5, 6].map(|n| core.get(n))
 }
 
-/// A memory with these words at these addresses.
-fn memory_with(words: [(u16, u16); 2]) -> Recorder {
+/// A machine at 0x0200 with SP, SR, R4, R5 and R6, and with these words at these addresses.
+fn started(registers: [u16; 5], words: [(u16, u16); 2]) -> Machine {
     let mut memory = Recorder::new();
     for (addr, word) in words {
         memory.set_byte(addr, (word % 256) as u8);
         memory.set_byte(addr.wrapping_add(1), (word / 256) as u8);
     }
-    memory
+    Machine {
+        core: core_with(registers),
+        memory,
+    }
 }
 
-/// Asserts what an instruction at 0x0200 leaves: PC, SP, SR, R4, R5 and R6, the calls of the memory, and
-/// what stands at the last call's address.
+/// Asserts what an instruction leaves: PC, SP, SR, R4, R5 and R6, the calls of the memory, and what stands at the last
+/// call's address.
 fn assert_left(
     rt: &impl Abort,
+    mut machine: Machine,
     code: [u16; 3],
-    words: [(u16, u16); 2],
-    before: [u16; 5],
     after: [u16; 6],
     calls: &[Call],
     cycles: u8,
 ) {
-    let mut core = core_with(before);
-    let mut memory = memory_with(words);
     let first = code[0];
-    assert_eq!(rt;
-        run(code, &mut core, &mut memory, false),
-        Some(cycles),
-        "of {first:04x}"
-    );
-    assert_eq!(rt; seen(&core), after, "of {first:04x}");
+    let taken = run(&mut machine, code, false);
+    assert_eq!(rt; taken, Some(cycles), "of {first:04x}");
+    assert_eq!(rt; seen(&machine.core), after, "of {first:04x}");
+    let memory = &machine.memory;
     assert_eq!(rt; memory.calls.as_slice(), calls, "of {first:04x}");
     if let Some(last) = calls.last() {
         let byte = u16::from(memory.byte(last.access.addr));
@@ -188,11 +195,11 @@ fn assert_left(
     }
 }
 
+/// A memory of zeros.
+const ZEROS: [(u16, u16); 2] = [(0, 0); 2];
+
 /// What stands in memory, but where a test says otherwise.
 const WORDS: [(u16, u16); 2] = [(0x0300, 0x89ab), (0x0302, 0x1234)];
-
-/// How far SP moves by a word that is pushed.
-const DOWN: u16 = 0xfffe;
 
 /// So far from 0x0300, where registers stand before.
 fn from_base(far: u16) -> u16 {
@@ -240,17 +247,17 @@ fn registers(rt: HostRuntime) {
     ];
     for (code, [sr, r5, r6], [new_sr, new_r5, new_r6]) in rows {
         let after = [0x0202, 0x0300, new_sr, 0, new_r5, new_r6];
-        let before = [0x0300, sr, 0, r5, r6];
-        assert_left(&rt, [code, 0, 0], [(0, 0); 2], before, after, &[], 1);
+        let before = started([0x0300, sr, 0, r5, r6], ZEROS);
+        assert_left(&rt, before, [code, 0, 0], after, &[], 1);
     }
 }
 
 // MOV R5, PC goes to an even address.
 #[test]
 fn moves_to_pc(rt: HostRuntime) {
-    let before = [0x0300, 0, 0, 0x0457, 0];
+    let before = started([0x0300, 0, 0, 0x0457, 0], ZEROS);
     let after = [0x0456, 0x0300, 0, 0, 0x0457, 0];
-    assert_left(&rt, [0x4500, 0, 0], [(0, 0); 2], before, after, &[], 2);
+    assert_left(&rt, before, [0x4500, 0, 0], after, &[], 2);
 }
 
 #[test]
@@ -267,9 +274,9 @@ fn jumps(rt: HostRuntime) {
     ];
     for (code, taken, not) in rows {
         for (sr, pc) in [(taken, 0x0204), (not, 0x0202)] {
-            let before = [0x0300, sr, 0, 0, 0];
+            let before = started([0x0300, sr, 0, 0, 0], ZEROS);
             let after = [pc, 0x0300, sr, 0, 0, 0];
-            assert_left(&rt, [code, 0, 0], [(0, 0); 2], before, after, &[], 2);
+            assert_left(&rt, before, [code, 0, 0], after, &[], 2);
         }
     }
 }
@@ -286,9 +293,10 @@ fn inside(rt: HostRuntime) {
         (0xd402, 0x0010, true, 0x0117),
     ];
     for (code, sr, inside, want) in rows {
-        let mut core = core_with([0x0300, sr, 0xffff, 0, 0]);
-        let cycles = run([code, 0, 0], &mut core, &mut Recorder::new(), inside);
-        assert_eq!(rt; (cycles, core.get(2)), (Some(1), want), "of {code:04x}");
+        let mut machine = started([0x0300, sr, 0xffff, 0, 0], ZEROS);
+        let cycles = run(&mut machine, [code, 0, 0], inside);
+        let left = (cycles, machine.core.get(2));
+        assert_eq!(rt; left, (Some(1), want), "of {code:04x}");
     }
 }
 
@@ -328,9 +336,9 @@ fn reads(rt: HostRuntime) {
     for ([code, next], [pc, sp, r4, r5], call, cycles) in rows {
         // Only CMP sets flags: C.
         let sr = if code == 0x9425 { 1 } else { 0 };
-        let before = [0x0300, 0, 0x0300, 0xffff, 0];
+        let before = started([0x0300, 0, 0x0300, 0xffff, 0], WORDS);
         let after = [pc, from_base(sp), sr, from_base(r4), r5, 0];
-        assert_left(&rt, [code, next, 0], WORDS, before, after, &[call], cycles);
+        assert_left(&rt, before, [code, next, 0], after, &[call], cycles);
     }
 }
 
@@ -358,152 +366,19 @@ fn writes(rt: HostRuntime) {
         ([0x1285, 0], [0x0310, 0x02fe], put(0x02fe, 0x0202), 4),
     ];
     for ([code, next], [pc, sp], call, cycles) in rows {
-        let before = [0x0300, 0x0107, 0x5678, 0x0310, 0];
+        let before = started([0x0300, 0x0107, 0x5678, 0x0310, 0], ZEROS);
         let after = [pc, sp, 0x0107, 0x5678, 0x0310, 0];
-        let code = [code, next, 0];
-        assert_left(&rt, code, [(0, 0); 2], before, after, &[call], cycles);
+        assert_left(&rt, before, [code, next, 0], after, &[call], cycles);
     }
 }
 
 // MOV #0x1234, &0x0400.
 #[test]
 fn writes_a_constant(rt: HostRuntime) {
-    let before = [0x0300, 0x0107, 0x5678, 0x0310, 0];
+    let before = started([0x0300, 0x0107, 0x5678, 0x0310, 0], ZEROS);
     let after = [0x0206, 0x0300, 0x0107, 0x5678, 0x0310, 0];
-    let code = [0x40b2, 0x1234, 0x0400];
     let call = put(0x0400, 0x1234);
-    assert_left(&rt, code, [(0, 0); 2], before, after, &[call], 5);
-}
-
-/// A word in memory, read and changed there.
-fn change(addr: u16, old: u16, new: u16) -> [Call; 2] {
-    [get(addr, old), put(addr, new)]
-}
-
-/// A byte in memory, read and changed there.
-fn change_byte(addr: u16, old: u16, new: u16) -> [Call; 2] {
-    [get_byte(addr, old), put_byte(addr, new)]
-}
-
-/// A word that is read, and put elsewhere.
-fn copy(from: u16, to: u16, value: u16) -> [Call; 2] {
-    [get(from, value), put(to, value)]
-}
-
-/// Asserts what an instruction at 0x0200 leaves, with SP and R5 0x0300, SR 0x0101 (C and V) and R4 0x0302 before: PC,
-/// SR, how far SP and R5 move, the calls and the cycles. R4 is kept.
-fn assert_moved(
-    rt: &impl Abort,
-    code: [u16; 3],
-    words: [(u16, u16); 2],
-    [pc, sr, sp, r5]: [u16; 4],
-    calls: &[Call],
-    cycles: u8,
-) {
-    let before = [0x0300, 0x0101, 0x0302, 0x0300, 0];
-    let after = [pc, from_base(sp), sr, 0x0302, from_base(r5), 0];
-    assert_left(rt, code, words, before, after, calls, cycles);
-}
-
-// SP and R5 stay. Row by row: the code, PC and SR, the calls and the cycles.
-#[test]
-fn changes_in_memory(rt: HostRuntime) {
-    let rows = [
-        // ADD R4 to 2(R5), symbolic, absolute; a byte to 2(R5).
-        (0x5485, 2, [0x0204, 0], change(0x0302, 0x1234, 0x1536), 4),
-        (0x5480, 0x100, [0x204, 0], change(0x302, 0x1234, 0x1536), 4),
-        (0x5482, 0x302, [0x204, 0], change(0x302, 0x1234, 0x1536), 4),
-        (0x54c5, 2, [0x0204, 0], change_byte(0x0302, 0x34, 0x36), 4),
-        // RRA @R5, RRC 2(R5), RRC.B 3(R5), SWPB absolute, SXT symbolic.
-        (0x1125, 0, [0x0202, 5], change(0x0300, 0x89ab, 0xc4d5), 3),
-        (0x1015, 2, [0x0204, 4], change(0x0302, 0x1234, 0x891a), 4),
-        (0x1055, 3, [0x0204, 4], change_byte(0x0303, 0x12, 0x89), 4),
-        (
-            0x1092,
-            0x302,
-            [0x204, 0x101],
-            change(0x302, 0x1234, 0x3412),
-            4,
-        ),
-        (0x1190, 0x100, [0x204, 1], change(0x302, 0x1234, 0x34), 4),
-        // XOR.B #-1 on a byte at an odd address.
-        (
-            0xe3f2,
-            0x301,
-            [0x204, 0x101],
-            change_byte(0x301, 0x89, 0x76),
-            4,
-        ),
-    ];
-    for (code, next, [pc, sr], calls, cycles) in rows {
-        let after = [pc, sr, 0, 0];
-        assert_moved(&rt, [code, next, 0], WORDS, after, &calls, cycles);
-    }
-}
-
-// The flags are kept. Row by row: the code, PC, how far SP and R5 move, the calls and the cycles.
-#[test]
-fn copies_in_memory(rt: HostRuntime) {
-    let byte = [get_byte(0x0300, 0xab), put_byte(0x0300, 0xab)];
-    let called = [get(0x0300, 0x89ab), put(0x0300, 0x0202)];
-    let called_at = [get(0x0302, 0x1234), put(0x02fe, 0x0204)];
-    let rows = [
-        // PUSH @SP+ and its byte, PUSH @R5+, PUSH 2(R5).
-        (0x1231, 0, [0x0202, 0, 0], copy(0x0300, 0x0300, 0x89ab), 5),
-        (0x1271, 0, [0x0202, 0, 0], byte, 5),
-        (0x1235, 0, [0x202, DOWN, 2], copy(0x300, 0x2fe, 0x89ab), 5),
-        (0x1215, 2, [0x204, DOWN, 0], copy(0x302, 0x2fe, 0x1234), 5),
-        // CALL @R1+, to an even address, and CALL 2(R5).
-        (0x12b1, 0, [0x89aa, 0, 0], called, 5),
-        (0x1295, 2, [0x1234, DOWN, 0], called_at, 5),
-        // MOV @R5+, 2(R5).
-        (0x45b5, 2, [0x0204, 0, 2], copy(0x0300, 0x0304, 0x89ab), 5),
-    ];
-    for (code, next, [pc, sp, r5], calls, cycles) in rows {
-        let after = [pc, 0x0101, sp, r5];
-        assert_moved(&rt, [code, next, 0], WORDS, after, &calls, cycles);
-    }
-}
-
-// RRA @R5+; RETI; MOV symbolic, absolute; MOV absolute, symbolic.
-#[test]
-fn others_in_memory(rt: HostRuntime) {
-    let halved = change(0x0300, 0x89ab, 0xc4d5);
-    let after = [0x0202, 5, 0, 2];
-    assert_moved(&rt, [0x1135, 0, 0], WORDS, after, &halved, 3);
-    let popped = [get(0x0300, 0x89ab), get(0x0302, 0x1234)];
-    let after = [0x1234, 0x01ab, 4, 0];
-    assert_moved(&rt, [0x1300, 0, 0], WORDS, after, &popped, 5);
-    let after = [0x0206, 0x0101, 0, 0];
-    let moved = copy(0x0302, 0x0400, 0x1234);
-    assert_moved(&rt, [0x4092, 0x0100, 0x0400], WORDS, after, &moved, 6);
-    let moved = copy(0x0302, 0x0304, 0x1234);
-    assert_moved(&rt, [0x4290, 0x0302, 0x0100], WORDS, after, &moved, 6);
-}
-
-// Row by row: the code, PC, SR, how far SP and R5 move, the number that is put and the cycles.
-#[test]
-fn both_in_memory(rt: HostRuntime) {
-    let rows = [
-        // ADD @R5+, 2(R5); ADD 0(R5), 2(R4); BIS symbolic, symbolic; DADD absolute, absolute.
-        ([0x55b5, 2, 0], [0x0204, 0, 0, 2], 0x0033, 5),
-        ([0x5594, 0, 2], [0x0206, 0, 0, 0], 0x0033, 6),
-        ([0xd090, 0x00fe, 0x0100], [0x0206, 0x0101, 0, 0], 0x0033, 6),
-        ([0xa292, 0x0300, 0x0304], [0x0206, 0, 0, 0], 0x0034, 6),
-    ];
-    let words = [(0x0300, 0x0011), (0x0304, 0x0022)];
-    for (code, after, sum, cycles) in rows {
-        let calls = [get(0x0300, 0x0011), get(0x0304, 0x0022), put(0x0304, sum)];
-        assert_moved(&rt, code, words, after, &calls, cycles);
-    }
-    // SUB.B @SP+, absolute.
-    let bytes = [
-        get_byte(0x0300, 0x11),
-        get_byte(0x0304, 0x22),
-        put_byte(0x0304, 0x11),
-    ];
-    let after = [0x0204, 1, 2, 0];
-    assert_moved(&rt, [0x81f2, 0x0304, 0], words, after, &bytes, 5);
+    assert_left(&rt, before, [0x40b2, 0x1234, 0x0400], after, &[call], 5);
 }
 
 // MOV @SP+ into SP and PC: what was read wins over the increment.
@@ -514,8 +389,8 @@ fn popped(rt: HostRuntime) {
         let after = [pc, sp, 0x0107, 0, 0, 0];
         let words = [(0x0300, 0x0456), (0, 0)];
         let calls = [get(0x0300, 0x0456)];
-        let before = [0x0300, 0x0107, 0, 0, 0];
-        assert_left(&rt, [code, 0, 0], words, before, after, &calls, cycles);
+        let before = started([0x0300, 0x0107, 0, 0, 0], words);
+        assert_left(&rt, before, [code, 0, 0], after, &calls, cycles);
     }
 }
 
