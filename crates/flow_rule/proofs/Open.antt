@@ -1,6 +1,6 @@
 -- The steps of a text with a stub.
 use Rattle.std.proofs.Common.{◌≡◌, ◌≢◌, ◌⊎◌, inl, inr, ℕ, zero, suc, ◌+◌, ◌*◌, ◌%◌, ◌<◌, ◌≤◌, List, [], ◌∷◌, length, refl, sym, ap, ◌∙◌, subst, arith, Bool, true, false, cond, nat_le, ◌==◌, ◌&&◌, ◌||◌, not, Some, get_or-set_same, length-set}
-use Rattle.std.proofs.lemmas.Bool.{cases_lt}
+use Rattle.std.proofs.lemmas.Bool.{cases_lt, and_parts, or_parts, both_ways, eqb-true, leb-true, leb-false}
 use Rattle.std.proofs.lemmas.Bool.Decides.{nat_tests}
 use Rattle.sm_words.specs.Words.{reg, put, kept, add16, nth, word_at, bit}
 use Rattle.insn_decode.specs.Code.{insn_of, length_of}
@@ -47,36 +47,22 @@ use Rattle.flow_rule.proofs.Stub.{StubFacts, met_one, met_two}
 abbrev pub IsOpen : ℕ → Type 0
 IsOpen k = (k ≡ 10) ⊎ ((k ≡ 12) ⊎ ((k ≡ 14) ⊎ (k ≡ 16)))
 
--- on the words 10 to 17 the entry number is below n, and the same in both runs
+-- at word k the entry number is below n, and the same in both runs; at word 17 it is doubled
+abbrev pub HasEntry : ℕ → Bool → ℕ → List ℕ → List ℕ → Type 0
+HasEntry n true k ca cb = (i : ℕ) × (i < n) × (reg ca 6 ≡ 2 * i) × (reg cb 6 ≡ 2 * i)
+HasEntry n false k ca cb = IsOpen k × (reg ca 6 < n) × (reg ca 6 ≡ reg cb 6)
+
+-- of the stub's closed words two runs stand at 10 to 17 alone
 pub record AtStub (m : Module) (n : ℕ) (x : PointState) (ca da cb db : List ℕ) : Type 0 where
   pub agree : AgreeAt m x ca da cb db
-  pub open_ok : is_open (word_number m x.point.addr) ≡ true → IsOpen (word_number m x.point.addr) × (reg ca 6 < n) × (reg ca 6 ≡ reg cb 6)
-  pub entry_ok : word_number m x.point.addr ≡ 17 → (i : ℕ) × (i < n) × (reg ca 6 ≡ 2 * i) × (reg cb 6 ≡ 2 * i)
-  pub low_ok : nat_le (word_number m x.point.addr) 18 ≡ true → IsOpen (word_number m x.point.addr) ⊎ (word_number m x.point.addr ≡ 17)
+  pub entry : word_number m x.point.addr ≤ 18 → HasEntry n (word_number m x.point.addr == 17) (word_number m x.point.addr) ca cb
 
 pub weaken_stub : (m : Module) (n : ℕ) (x y : PointState) (ca da cb db : List ℕ) → Under x y → AtStub m n x ca da cb db → AtStub m n y ca da cb db
 weaken_stub m n x y ca da cb db u h =
-    record {
-      agree = weaken_at m x y ca da cb db u h.agree;
-      open_ok = subst (λ a. is_open (word_number m a) ≡ true → IsOpen (word_number m a) × (reg ca 6 < n) × (reg ca 6 ≡ reg cb 6)) (sym u.addr) h.open_ok;
-      entry_ok = subst (λ a. word_number m a ≡ 17 → (i : ℕ) × (i < n) × (reg ca 6 ≡ 2 * i) × (reg cb 6 ≡ 2 * i)) (sym u.addr) h.entry_ok;
-      low_ok = subst (λ a. nat_le (word_number m a) 18 ≡ true → IsOpen (word_number m a) ⊎ (word_number m a ≡ 17)) (sym u.addr) h.low_ok;
-    }
+    record { agree = weaken_at m x y ca da cb db u h.agree; entry = subst (λ a. word_number m a ≤ 18 → HasEntry n (word_number m a == 17) (word_number m a) ca cb) (sym u.addr) h.entry }
 
-shut_open : (k : ℕ) → is_shut k ≡ false → is_open k ≡ true → ⊥
-shut_open k e f = by (nat_le k 18) (nat_le 10 k) (nat_le k 16) refl refl refl e f
-  where
-    by : (a b c : Bool) → nat_le k 18 ≡ a → nat_le 10 k ≡ b → nat_le k 16 ≡ c → (a || (k == 36) || (k == 37)) ≡ false → (b && c) ≡ true → ⊥
-    by true b c p q r e f = absurd cc
-    by false true true p q r e f = let g : k ≤ 16 = grind (arith, nat_tests) in absurd (grind (arith, nat_tests))
-    by false false c p q r e f = absurd cc
-    by false true false p q r e f = absurd cc
-
-shut_entry : (k : ℕ) → is_shut k ≡ false → k ≡ 17 → ⊥
-shut_entry k e f = let g : is_shut 17 ≡ false = subst (λ i. is_shut i ≡ false) f e in absurd cc
-
-shut_low : (k : ℕ) → is_shut k ≡ false → nat_le k 18 ≡ true → ⊥
-shut_low k e f = let g : (true || (k == 36) || (k == 37)) ≡ false = subst (λ b. (b || (k == 36) || (k == 37)) ≡ false) f e in absurd cc
+shut_far : (k : ℕ) → is_shut k ≡ false → k ≤ 18 → ⊥
+shut_far k e low = let far = leb-false k 18 (or_parts (nat_le k 18) (k == 36) (or_parts (nat_le k 18 || (k == 36)) (k == 37) e).0).0 in omega (arith, far)
 
 not_shut : (m : Module) (pc : ℕ) (gs : List PointState) → shut_violations m pc gs ≡ [] → (y : PointState) → Among y gs → is_shut (word_number m y.point.addr) ≡ false
 not_shut m pc [] e y h = absurd h
@@ -137,18 +123,14 @@ module _ (terms : Terms) (key : List ℕ) (m : Module) (text : List ℕ) (caller
     where
       by : (la lb : Lone) → shut_violations m x.point.addr (step_of terms m text x).gives ≡ [] → Ending terms m j (AgreeAt m) (step_of terms m text x).gives la lb → Ending terms m j (AtStub m n) (step_of terms m text x).gives la lb
       by la lb e (Stays y among ca da cb db at ea eb) =
-          let k = not_shut m x.point.addr (step_of terms m text x).gives e y among in
-          Stays y among ca da cb db (record { agree = at; open_ok = λ f. absurd (shut_open (word_number m y.point.addr) k f); entry_ok = λ f. absurd (shut_entry (word_number m y.point.addr) k f); low_ok = λ f. absurd (shut_low (word_number m y.point.addr) k f) }) ea eb
+          Stays y among ca da cb db (record { agree = at; entry = λ low. absurd (shut_far (word_number m y.point.addr) (not_shut m x.point.addr (step_of terms m text x).gives e y among) low) }) ea eb
       by la lb e (Left ca da cb db same out_a out_b ok_a ok_b agree ea eb) = Left ca da cb db same out_a out_b ok_a ok_b agree ea eb
       by la lb e (Shut same ea eb) = Shut same ea eb
 
   -- ---- an instruction among the words 10 to 16, to word k
-  abbrev Next : ℕ → List ℕ → List ℕ → Type 0
-  Next k ca cb = (is_open k ≡ true → IsOpen k × (reg ca 6 < n) × (reg ca 6 ≡ reg cb 6)) × (k ≡ 17 → (i : ℕ) × (i < n) × (reg ca 6 ≡ 2 * i) × (reg cb 6 ≡ 2 * i)) × (nat_le k 18 ≡ true → IsOpen k ⊎ (k ≡ 17))
-
   open_crossing : (insn : Insn) (gives : List PointState) (ca da cb db : List ℕ) (k : ℕ) (q : Parts terms key m text caller shape insn gives ca da cb db) →
       reg (confined true ca (does_freely insn ca q.values_a).core) 0 ≡ t0 + 2 * k → holds m.text (t0 + 2 * k) ≡ true →
-      Next k (confined true ca (does_freely insn ca q.values_a).core) (confined true cb (does_freely insn cb q.values_b).core) → Crossing terms m j (AtStub m n) gives (at_rest ca da) (at_rest cb db)
+      HasEntry n (k == 17) k (confined true ca (does_freely insn ca q.values_a).core) (confined true cb (does_freely insn cb q.values_b).core) → Crossing terms m j (AtStub m n) gives (at_rest ca da) (at_rest cb db)
   open_crossing insn gives ca da cb db k q pc inn next =
       record {
         cycles = suc q.rest;
@@ -160,15 +142,12 @@ module _ (terms : Terms) (key : List ℕ) (m : Module) (text : List ℕ) (caller
         ending = by _ _ pc next (landing_of terms m _ _ _ _ _ q.landing);
       }
     where
-      by : (ca' cb' : List ℕ) → reg ca' 0 ≡ t0 + 2 * k → Next k ca' cb' → Landing terms m gives ca' q.left_a cb' q.left_b → Ending terms m j (AtStub m n) gives (at_rest ca' q.left_a) (at_rest cb' q.left_b)
+      by : (ca' cb' : List ℕ) → reg ca' 0 ≡ t0 + 2 * k → HasEntry n (k == 17) k ca' cb' → Landing terms m gives ca' q.left_a cb' q.left_b → Ending terms m j (AtStub m n) gives (at_rest ca' q.left_a) (at_rest cb' q.left_b)
       by ca' cb' pc next (In y among at) =
           let e : word_number m y.point.addr ≡ k = ap (word_number m) (sym at.pc_a ∙ pc) ∙ word_at_place k in
           Stays y among ca' q.left_a cb' q.left_b
-          (record { agree = at; open_ok = subst (λ k. is_open k ≡ true → IsOpen k × (reg ca' 6 < n) × (reg ca' 6 ≡ reg cb' 6)) (sym e) next.0; entry_ok = subst (λ k. k ≡ 17 → (i : ℕ) × (i < n) × (reg ca' 6 ≡ 2 * i) × (reg cb' 6 ≡ 2 * i)) (sym e) next.1; low_ok = subst (λ k. nat_le k 18 ≡ true → IsOpen k ⊎ (k ≡ 17)) (sym e) next.2 }) refl refl
-      by ca' cb' pc next (Out same o out_b p q agree) = absurd (clash (holds m.text (reg ca' 0)) (ap (λ a. holds m.text a) pc ∙ inn) o)
-        where
-          clash : (b : Bool) → b ≡ true → b ≡ false → ⊥
-          clash b e f = cc
+          (record { agree = at; entry = λ low. subst (λ k. HasEntry n (k == 17) k ca' cb') (sym e) next }) refl refl
+      by ca' cb' pc next (Out same o out_b p q agree) = absurd (both_ways (holds m.text (reg ca' 0)) o (ap (λ a. holds m.text a) pc ∙ inn))
 
   step_is : (x : PointState) (insn : Insn) → met m.text text x.point.addr ≡ Some insn → step_of terms m text x ≡ step_insn terms m text (Some insn) x
   unfolding step_of
@@ -263,7 +242,7 @@ module _ (terms : Terms) (key : List ℕ) (m : Module) (text : List ℕ) (caller
 
     by_parts : (insn : Insn) (k k' : ℕ) → x.point.addr ≡ t0 + 2 * k → k < 38 → k' < 38 → met m.text text (t0 + 2 * k) ≡ Some insn → step_insn terms m text (Some insn) x ≡ step_plain terms m text insn x → Does_alike terms key m text caller shape insn →
         ((c vs : List ℕ) → reg c 0 ≡ t0 + 2 * k → length c ≡ 16 → reg c 6 < n → reg (confined true c (does_freely insn c vs).core) 0 ≡ t0 + 2 * k') →
-        ((vs ws : List ℕ) → Next k' (confined true ca (does_freely insn ca vs).core) (confined true cb (does_freely insn cb ws).core)) → Crosses
+        ((vs ws : List ℕ) → HasEntry n (k' == 17) k' (confined true ca (does_freely insn ca vs).core) (confined true cb (does_freely insn cb ws).core)) → Crosses
     by_parts insn k k' here lt lt' met_it plain alike pc next =
         let met_x : met m.text text x.point.addr ≡ Some insn = ap (λ a. met m.text text a) here ∙ met_it in
         let e : step_of terms m text x ≡ step_plain terms m text insn x = step_is x insn met_x ∙ plain in
@@ -271,29 +250,26 @@ module _ (terms : Terms) (key : List ℕ) (m : Module) (text : List ℕ) (caller
         subst (λ s. Crossing terms m j (AtStub m n) s.gives (at_rest ca da) (at_rest cb db)) (sym e)
         (open_crossing insn (step_plain terms m text insn x).gives ca da cb db k' q (pc ca q.values_a (at.pc_a ∙ here) at.core.long_a few) (in_place k' lt') (next q.values_a q.values_b))
 
-    sixes : (k' : ℕ) (ca' cb' : List ℕ) → is_open k' ≡ true → IsOpen k' → reg ca' 6 ≡ reg ca 6 → reg cb' 6 ≡ reg cb 6 → Next k' ca' cb'
-    sixes k' ca' cb' o is ea eb = ((λ f. (is, subst (λ i. i < n) (sym ea) few, ea ∙ equal ∙ sym eb)), λ f. absurd (never f), λ f. inl is)
-      where
-        never : k' ≡ 17 → ⊥
-        never f = let g : is_open 17 ≡ true = subst (λ i. is_open i ≡ true) f o in absurd cc
+    sixes : (k' : ℕ) (ca' cb' : List ℕ) → IsOpen k' → reg ca' 6 ≡ reg ca 6 → reg cb' 6 ≡ reg cb 6 → HasEntry n false k' ca' cb'
+    sixes k' ca' cb' is ea eb = (is, subst (λ i. i < n) (sym ea) few, ea ∙ equal ∙ sym eb)
 
     at_10 : x.point.addr ≡ t0 + 2 * 10 → Crosses
     at_10 here =
         by_parts (Two Mov Word (Reg 1) (Absolute m.ram.start)) 10 12 here (omega arith) (omega arith) met_10 refl (two_alike terms key m text caller shape Mov Word (Reg 1) (Absolute m.ram.start) tt)
         (λ c vs e long few. (moved_out 1 m.ram.start (t0 + 20) c vs e (even_place 10) (omega (arith, high_bits 12)) long).0 ∙ (let e : t0 + 20 + 4 ≡ t0 + 24 = omega arith in e))
-        (λ vs ws. sixes 12 (next_core (Two Mov Word (Reg 1) (Absolute m.ram.start)) ca vs) (next_core (Two Mov Word (Reg 1) (Absolute m.ram.start)) cb ws) refl (inr (inl refl)) (moved_out 1 m.ram.start (t0 + 20) ca vs (at.pc_a ∙ here) (even_place 10) (omega (arith, high_bits 12)) at.core.long_a).1 (moved_out 1 m.ram.start (t0 + 20) cb ws (at.pc_b ∙ here) (even_place 10) (omega (arith, high_bits 12)) at.core.long_b).1)
+        (λ vs ws. sixes 12 (next_core (Two Mov Word (Reg 1) (Absolute m.ram.start)) ca vs) (next_core (Two Mov Word (Reg 1) (Absolute m.ram.start)) cb ws) (inr (inl refl)) (moved_out 1 m.ram.start (t0 + 20) ca vs (at.pc_a ∙ here) (even_place 10) (omega (arith, high_bits 12)) at.core.long_a).1 (moved_out 1 m.ram.start (t0 + 20) cb ws (at.pc_b ∙ here) (even_place 10) (omega (arith, high_bits 12)) at.core.long_b).1)
 
     at_12 : x.point.addr ≡ t0 + 2 * 12 → Crosses
     at_12 here =
         by_parts (Two Mov Word (Reg 7) (Absolute (m.ram.start + 2))) 12 14 here (omega arith) (omega arith) met_12 refl (two_alike terms key m text caller shape Mov Word (Reg 7) (Absolute (m.ram.start + 2)) tt)
         (λ c vs e long few. (moved_out 7 (m.ram.start + 2) (t0 + 24) c vs e (even_place 12) (omega (arith, high_bits 14)) long).0 ∙ (let e : t0 + 24 + 4 ≡ t0 + 28 = omega arith in e))
-        (λ vs ws. sixes 14 (next_core (Two Mov Word (Reg 7) (Absolute (m.ram.start + 2))) ca vs) (next_core (Two Mov Word (Reg 7) (Absolute (m.ram.start + 2))) cb ws) refl (inr (inr (inl refl))) (moved_out 7 (m.ram.start + 2) (t0 + 24) ca vs (at.pc_a ∙ here) (even_place 12) (omega (arith, high_bits 14)) at.core.long_a).1 (moved_out 7 (m.ram.start + 2) (t0 + 24) cb ws (at.pc_b ∙ here) (even_place 12) (omega (arith, high_bits 14)) at.core.long_b).1)
+        (λ vs ws. sixes 14 (next_core (Two Mov Word (Reg 7) (Absolute (m.ram.start + 2))) ca vs) (next_core (Two Mov Word (Reg 7) (Absolute (m.ram.start + 2))) cb ws) (inr (inr (inl refl))) (moved_out 7 (m.ram.start + 2) (t0 + 24) ca vs (at.pc_a ∙ here) (even_place 12) (omega (arith, high_bits 14)) at.core.long_a).1 (moved_out 7 (m.ram.start + 2) (t0 + 24) cb ws (at.pc_b ∙ here) (even_place 12) (omega (arith, high_bits 14)) at.core.long_b).1)
 
     at_14 : x.point.addr ≡ t0 + 2 * 14 → Crosses
     at_14 here =
         by_parts (Two Mov Word (Imm p) (Reg 1)) 14 16 here (omega arith) (omega arith) met_14 refl (two_alike terms key m text caller shape Mov Word (Imm p) (Reg 1) tt)
         (λ c vs e long few. (moved_in p (t0 + 28) c vs e (even_place 14) (omega (arith, high_bits 16)) long).0 ∙ (let e : t0 + 28 + 4 ≡ t0 + 32 = omega arith in e))
-        (λ vs ws. sixes 16 (next_core (Two Mov Word (Imm p) (Reg 1)) ca vs) (next_core (Two Mov Word (Imm p) (Reg 1)) cb ws) refl (inr (inr (inr refl))) (moved_in p (t0 + 28) ca vs (at.pc_a ∙ here) (even_place 14) (omega (arith, high_bits 16)) at.core.long_a).1 (moved_in p (t0 + 28) cb ws (at.pc_b ∙ here) (even_place 14) (omega (arith, high_bits 16)) at.core.long_b).1)
+        (λ vs ws. sixes 16 (next_core (Two Mov Word (Imm p) (Reg 1)) ca vs) (next_core (Two Mov Word (Imm p) (Reg 1)) cb ws) (inr (inr (inr refl))) (moved_in p (t0 + 28) ca vs (at.pc_a ∙ here) (even_place 14) (omega (arith, high_bits 16)) at.core.long_a).1 (moved_in p (t0 + 28) cb ws (at.pc_b ∙ here) (even_place 14) (omega (arith, high_bits 16)) at.core.long_b).1)
 
     at_16 : x.point.addr ≡ t0 + 2 * 16 → Crosses
     at_16 here =
@@ -301,18 +277,11 @@ module _ (terms : Terms) (key : List ℕ) (m : Module) (text : List ℕ) (caller
         by_parts (Two Add Word (Reg 6) (Reg 6)) 16 17 here (omega arith) (omega arith) met_16 refl (two_alike terms key m text caller shape Add Word (Reg 6) (Reg 6) tt)
         (λ c vs e long few. (doubled (t0 + 32) c vs e (even_place 16) (omega (arith, high_bits 17)) long (omega arith)).0 ∙ (let e : t0 + 32 + 2 ≡ t0 + 34 = omega arith in e))
         (λ vs ws. (
-          (λ f. absurd (closed_17 f)),
-          λ e. (
-            reg ca 6,
-            few,
-            (doubled (t0 + 32) ca vs (at.pc_a ∙ here) (even_place 16) (omega (arith, high_bits 17)) at.core.long_a (omega arith)).1,
-            (doubled (t0 + 32) cb ws (at.pc_b ∙ here) (even_place 16) (omega (arith, high_bits 17)) at.core.long_b (subst (λ i. i < 64) equal (omega arith))).1 ∙ ap (λ i. 2 * i) (sym equal),
-          ),
-          λ f. inr refl,
+          reg ca 6,
+          few,
+          (doubled (t0 + 32) ca vs (at.pc_a ∙ here) (even_place 16) (omega (arith, high_bits 17)) at.core.long_a (omega arith)).1,
+          (doubled (t0 + 32) cb ws (at.pc_b ∙ here) (even_place 16) (omega (arith, high_bits 17)) at.core.long_b (subst (λ i. i < 64) equal (omega arith))).1 ∙ ap (λ i. 2 * i) (sym equal),
         ))
-      where
-        closed_17 : is_open 17 ≡ true → ⊥
-        closed_17 f = cc
 
   -- ---- word 17
   -- where the call goes, and what it leaves
@@ -361,28 +330,8 @@ module _ (terms : Terms) (key : List ℕ) (m : Module) (text : List ℕ) (caller
       by (inl l) go = inr (go l)
       by (inr ge) go = let e : i ≡ k = omega arith in inl (ap (λ i. entry_point i call_string core words) e)
 
-  far_open : (a : ℕ) → t0 + 76 + 2 * n ≤ a → is_open (word_number m a) ≡ true → ⊥
-  far_open a low e =
-      let h = split (nat_le 10 (word_number m a)) (nat_le (word_number m a) 16) e in
-      let g : word_number m a ≤ 16 = le (word_number m a) 16 h.1 in
-      omega arith
-    where
-      split : (a b : Bool) → (a && b) ≡ true → (a ≡ true) × (b ≡ true)
-      split true true e = (refl, refl)
-      split true false e = absurd cc
-      split false b e = absurd cc
-
-      le : (x y : ℕ) → nat_le x y ≡ true → x ≤ y
-      le x y e = grind (arith, nat_tests)
-
-  far_low : (a : ℕ) → t0 + 76 + 2 * n ≤ a → nat_le (word_number m a) 18 ≡ true → ⊥
-  far_low a low e = let g : word_number m a ≤ 18 = le (word_number m a) 18 e in omega arith
-    where
-      le : (x y : ℕ) → nat_le x y ≡ true → x ≤ y
-      le x y e = grind (arith, nat_tests)
-
-  far_entry : (a : ℕ) → t0 + 76 + 2 * n ≤ a → word_number m a ≡ 17 → ⊥
-  far_entry a low e = omega arith
+  far_from : (a : ℕ) → t0 + 76 + 2 * n ≤ a → word_number m a ≤ 18 → ⊥
+  far_from a past low = omega arith
 
   module _ (x : PointState) (ca da cb db : List ℕ) (at : AgreeAt m x ca da cb db) (here : x.point.addr ≡ t0 + 34) (i : ℕ) (lt : i < n) (six_a : reg ca 6 ≡ 2 * i) (six_b : reg cb 6 ≡ 2 * i) (none : (step_entries m text x).violations ≡ []) where
     abbrev core_val : List Val
@@ -503,9 +452,7 @@ module _ (terms : Terms) (key : List ℕ) (m : Module) (text : List ℕ) (caller
               (entered ca va) da' (entered cb vb) db'
               (record {
                 agree = record { pc_a = pc_is ca va (value_is ca da six_a) at.core.long_a; pc_b = pc_is cb vb (value_is cb db six_b) at.core.long_b; core = core_both; words = words_both; in_text = goal_in };
-                open_ok = λ f. absurd (far_open goal_of low f);
-                entry_ok = λ f. absurd (far_entry goal_of low f);
-                low_ok = λ f. absurd (far_low goal_of low f);
+                entry = λ f. absurd (far_from goal_of low f);
               }) refl refl;
         }
       where
@@ -523,7 +470,7 @@ module _ (terms : Terms) (key : List ℕ) (m : Module) (text : List ℕ) (caller
   -- ---- every step
   pub stub_crossing : (x : PointState) (ca da cb db : List ℕ) → AtStub m n x ca da cb db → (step_stub terms m text x).violations ≡ [] → Crossing terms m j (AtStub m n) (step_stub terms m text x).gives (at_rest ca da) (at_rest cb db)
   unfolding step_stub
-  stub_crossing x ca da cb db at none = by (word_number m x.point.addr == 17) (is_open (word_number m x.point.addr)) refl refl none
+  stub_crossing x ca da cb db at none = by (word_number m x.point.addr == 17) (is_open (word_number m x.point.addr)) refl refl at.entry none
     where
       place : (k : ℕ) → word_number m x.point.addr ≡ k → x.point.addr ≡ t0 + 2 * k
       place k e = place_of_word x.point.addr k e (ap (λ i. i % 2) (sym at.agree.pc_a) ∙ at.agree.core.even_pc) at.agree.in_text
@@ -534,14 +481,14 @@ module _ (terms : Terms) (key : List ℕ) (m : Module) (text : List ℕ) (caller
       opened (inr (inr (inl e))) few equal none = at_14 x ca da cb db at.agree few equal none (place 14 e)
       opened (inr (inr (inr e))) few equal none = at_16 x ca da cb db at.agree few equal none (place 16 e)
 
-      by : (a b : Bool) → (word_number m x.point.addr == 17) ≡ a → is_open (word_number m x.point.addr) ≡ b →
+      by : (a b : Bool) → (word_number m x.point.addr == 17) ≡ a → is_open (word_number m x.point.addr) ≡ b → (word_number m x.point.addr ≤ 18 → HasEntry n a (word_number m x.point.addr) ca cb) →
           (cond a (step_entries m text x) (shut_if b m x.point.addr (step_of terms m text x))).violations ≡ [] → Crossing terms m j (AtStub m n) (cond a (step_entries m text x) (shut_if b m x.point.addr (step_of terms m text x))).gives (at_rest ca da) (at_rest cb db)
-      by true b e f none =
-          let k : word_number m x.point.addr ≡ 17 = is_17 (word_number m x.point.addr) e in
-          let h = at.entry_ok k in
+      by true b e f entry none =
+          let k : word_number m x.point.addr ≡ 17 = eqb-true (word_number m x.point.addr) 17 e in
+          let h = entry (omega (arith, k)) in
           entry_crossing x ca da cb db at.agree (place 17 k) h.0 h.1 h.2 h.3 none
-        where
-          is_17 : (k : ℕ) → (k == 17) ≡ true → k ≡ 17
-          is_17 k e = grind (arith, nat_tests)
-      by false true e f none = let h = at.open_ok f in opened h.0 h.1 h.2 none
-      by false false e f none = outside_crossing x ca da cb db at none
+      by false true e f entry none =
+          let low = leb-true (word_number m x.point.addr) 16 (and_parts (nat_le 10 (word_number m x.point.addr)) (nat_le (word_number m x.point.addr) 16) f).1 in
+          let h = entry (omega (arith, low)) in
+          opened h.0 h.1 h.2 none
+      by false false e f entry none = outside_crossing x ca da cb db at none

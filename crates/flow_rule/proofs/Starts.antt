@@ -1,5 +1,5 @@
 -- Where a call begins.
-use Rattle.std.proofs.Common.{◌≡◌, inl, ℕ, zero, suc, ◌+◌, ◌%◌, ◌<◌, List, set, replicate, refl, sym, ap, ◌∙◌, subst, arith, true, false}
+use Rattle.std.proofs.Common.{◌≡◌, inl, ℕ, zero, suc, ◌+◌, ◌%◌, ◌<◌, ◌==◌, List, set, replicate, refl, sym, ap, ◌∙◌, subst, arith, true, false}
 use Rattle.std.proofs.lemmas.Bool.Decides.{nat_tests}
 use Rattle.sm_words.specs.Words.{reg, nth}
 use Rattle.mod_layout.specs.declared.Module.{Module}
@@ -21,7 +21,7 @@ use Rattle.flow_rule.proofs.Words.{Shape, IsData}
 use Rattle.flow_rule.proofs.Telling.{opened_at}
 use Rattle.flow_rule.proofs.Instruction.{AgreeAt}
 use Rattle.flow_rule.proofs.Stub.{StubFacts}
-use Rattle.flow_rule.proofs.Open.{AtStub}
+use Rattle.flow_rule.proofs.Open.{HasEntry, AtStub}
 use Rattle.flow_rule.proofs.Begin.{Calm}
 
 pub shape_of : (m : Module) → IsSection m.text → IsSection m.ram → Shape m
@@ -112,9 +112,7 @@ stub_begins terms m text n p shape facts c da db six seven small out h few pa pb
         words = record { is_a = pa; is_b = pb; at = opened_at m terms.public (replicate 256 Secret) da db agree (λ i. secrets m.text 256 i _ _) };
         in_text = inside;
       };
-      open_ok = λ f. (inl at_10, subst (λ i. i < n) (sym h.six_is) few, refl);
-      entry_ok = λ f. absurd (not_17 f);
-      low_ok = λ f. inl (inl at_10);
+      entry = λ low. subst (λ k. HasEntry n (k == 17) k c c) (sym at_10) (inl refl, subst (λ i. i < n) (sym h.six_is) few, refl);
     }
   where
     even_20 : (m.text.start + 20) % 2 ≡ 0
@@ -122,9 +120,6 @@ stub_begins terms m text n p shape facts c da db six seven small out h few pa pb
 
     at_10 : word_number m (m.text.start + 20) ≡ 10
     at_10 = omega arith
-
-    not_17 : word_number m (m.text.start + 20) ≡ 17 → ⊥
-    not_17 f = omega arith
 
     inside : holds m.text (m.text.start + 20) ≡ true
     inside = let r = facts.room in let o = shape.text_order in let lt : m.text.start + 20 < m.text.end = omega arith in grind (arith, nat_tests)
