@@ -1,10 +1,10 @@
 -- One instruction of two runs that stand at one point.
 use Rattle.std.proofs.Common.{◌≡◌, inl, ℕ, zero, suc, ◌+◌, ◌-◌, ◌*◌, ◌/◌, ◌%◌, ◌<◌, List, [], ◌∷◌, ◌++◌, length, map, refl, sym, ap, ◌∙◌, subst, arith, Bool, true, false, cond, nat_lt, ◌&&◌, ◌||◌, not, Option, Some, None, get_or-set_same, length-set, ℤ}
+use Rattle.std.proofs.lemmas.Bool.{and_parts}
 use Rattle.sm_words.specs.Words.{reg, put, kept, add16, word_at}
-use Rattle.insn_decode.specs.Code.{insn_of, length_of, is_always}
+use Rattle.insn_decode.specs.Code.{insn_of, length_of, is_always, distance}
 use Rattle.cycle_table.specs.Cycles.{cycles_of}
 use Rattle.cpu_step.specs.Effect.{jumped, does, does_freely, confined, jumps}
-use Rattle.insn_decode.specs.Code.{distance}
 use Rattle.cpu_step.specs.Plan.{plan, past}
 use Rattle.sm_words.specs.declared.width.Width.{Width}
 use Rattle.insn_decode.specs.declared.insn.TwoOp.{TwoOp}
@@ -57,6 +57,9 @@ pub record AgreeAt (m : Module) (x : PointState) (ca da cb db : List ℕ) : Type
   pub core : AgreeCore m.text x.state.core ca cb
   pub words : AgreeData m x.state.words da db
   pub in_text : holds m.text x.point.addr ≡ true
+
+pub even_at : (m : Module) (x : PointState) (ca da cb db : List ℕ) → AgreeAt m x ca da cb db → x.point.addr % 2 ≡ 0
+even_at m x ca da cb db h = ap (λ i. i % 2) (sym h.pc_a) ∙ h.core.even_pc
 
 pub weaken_at : (m : Module) (x y : PointState) (ca da cb db : List ℕ) → Under x y → AgreeAt m x ca da cb db → AgreeAt m y ca da cb db
 weaken_at m x y ca da cb db u h =
@@ -168,11 +171,6 @@ module _ (terms : Terms) (key : List ℕ) (m : Module) (text : List ℕ) (caller
   even = record { even_start = shape.text_start; even_end = shape.text_end }
 
   -- ---- the same instruction is met
-  and_split : (a b : Bool) → (a && b) ≡ true → (a ≡ true) × (b ≡ true)
-  and_split true true e = (refl, refl)
-  and_split true false e = absurd cc
-  and_split false b e = absurd cc
-
   later_same : (d : List ℕ) (pc n k : ℕ) → pc % 2 ≡ 0 → word_in m.text pc n k ≡ true → later_word (lone_byte j d) pc n k ≡ later_word (text_byte m.text text) pc n k
   later_same d pc n k ev e = by (nat_lt k n) e
     where
@@ -182,7 +180,7 @@ module _ (terms : Terms) (key : List ℕ) (m : Module) (text : List ℕ) (caller
 
   insn_same : (d : List ℕ) (pc n : ℕ) → pc % 2 ≡ 0 → holds m.text pc ≡ true → (word_in m.text pc n 1 && word_in m.text pc n 2) ≡ true → insn_at (lone_byte j d) pc n ≡ insn_at (text_byte m.text text) pc n
   insn_same d pc n ev t f =
-      let h = and_split (word_in m.text pc n 1) (word_in m.text pc n 2) f in
+      let h = and_parts (word_in m.text pc n 1) (word_in m.text pc n 2) f in
       let x = word_text key m text caller shape d pc ev t in
       let y = later_same d pc n 1 ev h.0 in
       let z = later_same d pc n 2 ev h.1 in
@@ -377,14 +375,11 @@ module _ (terms : Terms) (key : List ℕ) (m : Module) (text : List ℕ) (caller
     abbrev pub way_val : Bool → List Val
     way_val t = cond t (put_val (past_val insn pc x.state.core) 0 (Known (add16 (add16 pc 2) (distance off)))) (past_val insn pc x.state.core)
 
-    even_here : pc % 2 ≡ 0
-    even_here = ap (λ i. i % 2) (sym at.pc_a) ∙ at.core.even_pc
-
     pub way_agrees : (t : Bool) → AgreeCore m.text (way_val t) (way t ca) (way t cb)
     way_agrees true =
         let h1 = past_agrees m.text even insn pc x.state.core ca cb at.pc_a at.pc_b at.core in
-        let ea = past_pc insn pc ca refl at.pc_a even_here at.core.long_a in
-        let eb = past_pc insn pc cb refl at.pc_b even_here at.core.long_b in
+        let ea = past_pc insn pc ca refl at.pc_a (even_at m x ca da cb db at) at.core.long_a in
+        let eb = past_pc insn pc cb refl at.pc_b (even_at m x ca da cb db at) at.core.long_b in
         let h2 = put_agrees m.text even (past_val insn pc x.state.core) (past insn ca) (past insn cb) 0 (Known (add16 (add16 pc 2) (distance off))) _ _ (λ e. absurd (omega arith)) h1
         (ap (λ i. add16 i (distance off)) ea, ap (λ i. add16 i (distance off)) eb) in
         confined_agrees m.text even _ ca cb (taken_of ca) (taken_of cb) at.core.mode_same
@@ -410,21 +405,14 @@ module _ (terms : Terms) (key : List ℕ) (m : Module) (text : List ℕ) (caller
     pub way_single : (t : Bool) → (way_goes t).violations ≡ [] → Single terms m (way_goes t).gives (way t ca) da (way t cb) db
     way_single t e = lands terms m pc x.point.call_string (way_val t) x.state.words (way t ca) da (way t cb) db (way_agrees t) at.words e
 
-    way_lands : (t : Bool) → (way_goes t).violations ≡ [] →
-        Landing terms m (way_goes t).gives (way t ca) da (way t cb) db
-    way_lands t e = landing_of terms m _ _ _ _ _ (way_single t e)
-
     jump_crossing : (step_jump terms m text insn cn x).violations ≡ [] → Crossing terms m j (AgreeAt m) (step_jump terms m text insn cn x).gives (at_rest ca da) (at_rest cb db)
     unfolding does_val
     jump_crossing none = by (is_always cn) refl none
       where
-        abbrev_either : FlowStep
-        abbrev_either = also (violation_if (is_secret (val x.state.core 2)) pc SecretBranch 0) (both (way_goes true) (way_goes false))
-
         by : (c : Bool) → is_always cn ≡ c → (cond c (way_goes true) (also (violation_if (is_secret (val x.state.core 2)) pc SecretBranch 0) (both (way_goes true) (way_goes false)))).violations ≡ [] →
             Crossing terms m j (AgreeAt m) (cond c (way_goes true) (also (violation_if (is_secret (val x.state.core 2)) pc SecretBranch 0) (both (way_goes true) (way_goes false)))).gives (at_rest ca da) (at_rest cb db)
         by true e none =
-            way_crossing true (way_goes true).gives (always_jumps cn (reg ca 2) e) (always_jumps cn (reg cb 2) e) (way_lands true none)
+            way_crossing true (way_goes true).gives (always_jumps cn (reg ca 2) e) (always_jumps cn (reg cb 2) e) (landing_of terms m _ _ _ _ _ (way_single true none))
         by false e none =
             let n1 = none_left (violation_if (is_secret (val x.state.core 2)) pc SecretBranch 0) ((way_goes true).violations ++ (way_goes false).violations) none in
             let n2 = none_right (violation_if (is_secret (val x.state.core 2)) pc SecretBranch 0) ((way_goes true).violations ++ (way_goes false).violations) none in
@@ -433,8 +421,8 @@ module _ (terms : Terms) (key : List ℕ) (m : Module) (text : List ℕ) (caller
           where
             turn : (t : Bool) → jumps cn (reg ca 2) ≡ t → jumps cn (reg cb 2) ≡ jumps cn (reg ca 2) → (way_goes true).violations ≡ [] → (way_goes false).violations ≡ [] →
                 Crossing terms m j (AgreeAt m) ((way_goes true).gives ++ (way_goes false).gives) (at_rest ca da) (at_rest cb db)
-            turn true ea eb p q = way_crossing true _ ea (eb ∙ ea) (land_left terms m (way_goes true).gives (way_goes false).gives _ _ _ _ (way_lands true p))
-            turn false ea eb p q = way_crossing false _ ea (eb ∙ ea) (land_right terms m (way_goes true).gives (way_goes false).gives _ _ _ _ (way_lands false q))
+            turn true ea eb p q = way_crossing true _ ea (eb ∙ ea) (land_left terms m (way_goes true).gives (way_goes false).gives _ _ _ _ (landing_of terms m _ _ _ _ _ (way_single true p)))
+            turn false ea eb p q = way_crossing false _ ea (eb ∙ ea) (land_right terms m (way_goes true).gives (way_goes false).gives _ _ _ _ (landing_of terms m _ _ _ _ _ (way_single false q)))
 
   -- ---- unit instructions
   unit_does : UnitName → List ℕ → List ℕ → Lone
@@ -448,16 +436,10 @@ module _ (terms : Terms) (key : List ℕ) (m : Module) (text : List ℕ) (caller
   unit_so n u c d e = ap (λ u. unit_does u c d) e
 
   module _ (n : UnitName) (u : UnitName) (named : n ≡ u) (x : PointState) (ca da cb db : List ℕ) (at : AgreeAt m x ca da cb db) (met_it : met m.text text x.point.addr ≡ Some (UnitOp n)) (alone : is_alone (UnitOp n) ≡ true) where
-    even_b : reg cb 0 % 2 ≡ 0
-    even_b = ap (λ i. i % 2) (at.pc_b ∙ sym at.pc_a) ∙ at.core.even_pc
-
-    unit_fetched_a : all_inside j (unit_plan (lone_who j) u ca) ≡ true → doing j (at_rest ca da) ≡ Does (UnitOp n)
+    unit_fetched : (c d : List ℕ) → reg c 0 ≡ x.point.addr → all_inside j (unit_plan (lone_who j) u c) ≡ true → doing j (at_rest c d) ≡ Does (UnitOp n)
     unfolding asks
-    unit_fetched_a ins = fetched ca da (UnitOp n) at.core.even_pc (ap (λ a. holds m.text a) at.pc_a ∙ at.in_text) (ap (λ a. met m.text text a) at.pc_a ∙ met_it) alone (ap (λ u. all_inside j (unit_plan (lone_who j) u ca)) named ∙ ins)
-
-    unit_fetched_b : all_inside j (unit_plan (lone_who j) u cb) ≡ true → doing j (at_rest cb db) ≡ Does (UnitOp n)
-    unfolding asks
-    unit_fetched_b ins = fetched cb db (UnitOp n) even_b (ap (λ a. holds m.text a) at.pc_b ∙ at.in_text) (ap (λ a. met m.text text a) at.pc_b ∙ met_it) alone (ap (λ u. all_inside j (unit_plan (lone_who j) u cb)) named ∙ ins)
+    unit_fetched c d pc ins =
+        fetched c d (UnitOp n) (ap (λ i. i % 2) pc ∙ even_at m x ca da cb db at) (ap (λ a. holds m.text a) pc ∙ at.in_text) (ap (λ a. met m.text text a) pc ∙ met_it) alone (ap (λ u. all_inside j (unit_plan (lone_who j) u c)) named ∙ ins)
 
     tell_crossing : (value : ℕ) → unit_plan (lone_who j) u ca ≡ [] → unit_plan (lone_who j) u cb ≡ [] →
         unit_does u ca da ≡ after (put (past (UnitOp Unprotect) ca) 15 value) da 5 false → unit_does u cb db ≡ after (put (past (UnitOp Unprotect) cb) 15 value) db 5 false →
@@ -467,7 +449,7 @@ module _ (terms : Terms) (key : List ℕ) (m : Module) (text : List ℕ) (caller
         let h1 = past_agrees m.text even (UnitOp n) x.point.addr x.state.core ca cb at.pc_a at.pc_b at.core in
         let h2 = put_agrees m.text even (past_val (UnitOp n) x.point.addr x.state.core) (past (UnitOp n) ca) (past (UnitOp n) cb) 15 Public value value (λ e. absurd (omega arith)) h1 refl in
         crossing _ ca da cb db (put (past (UnitOp Unprotect) ca) 15 value) da (put (past (UnitOp Unprotect) cb) 15 value) db (UnitOp n) 5
-        (unit_fetched_a (ap (all_inside j) pa)) (unit_fetched_b (ap (all_inside j) pb)) (unit_so n u ca da named ∙ ea) (unit_so n u cb db named ∙ eb)
+        (unit_fetched ca da at.pc_a (ap (all_inside j) pa)) (unit_fetched cb db at.pc_b (ap (all_inside j) pb)) (unit_so n u ca da named ∙ ea) (unit_so n u cb db named ∙ eb)
         (landing_of terms m _ _ _ _ _ (lands terms m x.point.addr x.point.call_string _ x.state.words _ da _ db h2 at.words none))
 
     shut_crossing : (r : ℕ) → unit_plan (lone_who j) u ca ≡ [] → unit_plan (lone_who j) u cb ≡ [] →
@@ -480,16 +462,13 @@ module _ (terms : Terms) (key : List ℕ) (m : Module) (text : List ℕ) (caller
           some = omega arith;
           to_a = after (past (UnitOp Unprotect) ca) da 0 true;
           to_b = after (past (UnitOp Unprotect) cb) db 0 true;
-          pass_a = does_it j ca da _ _ (UnitOp n) r true (unit_fetched_a (ap (all_inside j) pa)) (unit_so n u ca da named ∙ ea);
-          pass_b = does_it j cb db _ _ (UnitOp n) r true (unit_fetched_b (ap (all_inside j) pb)) (unit_so n u cb db named ∙ eb);
+          pass_a = does_it j ca da _ _ (UnitOp n) r true (unit_fetched ca da at.pc_a (ap (all_inside j) pa)) (unit_so n u ca da named ∙ ea);
+          pass_b = does_it j cb db _ _ (UnitOp n) r true (unit_fetched cb db at.pc_b (ap (all_inside j) pb)) (unit_so n u cb db named ∙ eb);
           ending = Shut (blanked terms.answers (past (UnitOp Unprotect) ca) (past (UnitOp Unprotect) cb) (length-set ca 0 _ ∙ at.core.long_a) (length-set cb 0 _ ∙ at.core.long_b) past_same) refl refl;
         }
       where
-        even_here : x.point.addr % 2 ≡ 0
-        even_here = ap (λ i. i % 2) (sym at.pc_a) ∙ at.core.even_pc
-
         past_same : (k : ℕ) → k < 16 → on_list terms.answers k ≡ false → reg (past (UnitOp Unprotect) ca) k ≡ reg (past (UnitOp Unprotect) cb) k
-        past_same zero lt off = past_pc (UnitOp Unprotect) x.point.addr ca refl at.pc_a even_here at.core.long_a ∙ sym (past_pc (UnitOp Unprotect) x.point.addr cb refl at.pc_b even_here at.core.long_b)
+        past_same zero lt off = past_pc (UnitOp Unprotect) x.point.addr ca refl at.pc_a (even_at m x ca da cb db at) at.core.long_a ∙ sym (past_pc (UnitOp Unprotect) x.point.addr cb refl at.pc_b (even_at m x ca da cb db at) at.core.long_b)
         past_same (suc k) lt off =
             put_other_reg ca 0 _ (suc k) (λ e. absurd (omega arith)) ∙ same_reg m.text terms.answers x.point.addr x.state.core ca cb at.core none (suc k) lt off ∙ sym (put_other_reg cb 0 _ (suc k) (λ e. absurd (omega arith)))
 

@@ -41,7 +41,7 @@ use Rattle.flow_rule.proofs.Words.{Shape, AgreeData, writes_agree, word_text}
 use Rattle.flow_rule.proofs.Labelling.{Under, Among}
 use Rattle.flow_rule.proofs.Runs.{at_rest, Ending, Stays, Left, Shut, Crossing}
 use Rattle.flow_rule.proofs.Decoding.{met_regular}
-use Rattle.flow_rule.proofs.Instruction.{landing_of, AgreeAt, weaken_at, RegularInsn, Landing, In, Out, after, does_it, fetched, Does_alike, Parts, plain_parts, two_alike, even, step_crossing}
+use Rattle.flow_rule.proofs.Instruction.{landing_of, AgreeAt, even_at, weaken_at, RegularInsn, Landing, In, Out, after, does_it, fetched, Does_alike, Parts, plain_parts, two_alike, even, step_crossing}
 use Rattle.flow_rule.proofs.Stub.{StubFacts, met_one, met_two}
 
 abbrev pub IsOpen : ℕ → Type 0
@@ -473,7 +473,7 @@ module _ (terms : Terms) (key : List ℕ) (m : Module) (text : List ℕ) (caller
   stub_crossing x ca da cb db at none = by (word_number m x.point.addr == 17) (is_open (word_number m x.point.addr)) refl refl at.entry none
     where
       place : (k : ℕ) → word_number m x.point.addr ≡ k → x.point.addr ≡ t0 + 2 * k
-      place k e = place_of_word x.point.addr k e (ap (λ i. i % 2) (sym at.agree.pc_a) ∙ at.agree.core.even_pc) at.agree.in_text
+      place k e = place_of_word x.point.addr k e (even_at m x ca da cb db at.agree) at.agree.in_text
 
       opened : IsOpen (word_number m x.point.addr) → reg ca 6 < n → reg ca 6 ≡ reg cb 6 → (step_of terms m text x).violations ≡ [] → Crossing terms m j (AtStub m n) (step_of terms m text x).gives (at_rest ca da) (at_rest cb db)
       opened (inl e) few equal none = at_10 x ca da cb db at.agree few equal none (place 10 e)
