@@ -15,6 +15,7 @@ pub mod Open
 pub mod Begin
 pub mod Rows
 pub mod Walks
+pub mod ArmRuns
 pub mod Arms
 pub mod Calls
 pub mod Absorbing
