@@ -1,6 +1,6 @@
 -- From the start of a text with a stub to its word 10, or out again.
-use Rattle.std.proofs.Common.{◌≡◌, ◌⊎◌, inl, inr, ℕ, zero, suc, ◌+◌, ◌-◌, ◌*◌, ◌%◌, ◌<◌, ◌≤◌, List, [], length, refl, sym, ap, ◌∙◌, subst, arith, Bool, true, false, cond, nat_lt, nat_le, ◌==◌, ◌&&◌, Some, get_or-set_same, length-set, ℤ, pos, negsuc}
-use Rattle.std.proofs.lemmas.Bool.{cases_lt}
+use Rattle.std.proofs.Common.{◌≡◌, ◌⊎◌, inl, inr, ℕ, zero, suc, ◌+◌, ◌-◌, ◌*◌, ◌%◌, ◌<◌, ◌≤◌, List, [], length, refl, sym, ap, ◌∙◌, subst, arith, Bool, true, false, cond, nat_lt, nat_le, ◌==◌, Some, get_or-set_same, length-set, ℤ, pos, negsuc}
+use Rattle.std.proofs.lemmas.Bool.{cases_lt, and_left, and_right, lt-leb, le-ltb}
 use Rattle.std.proofs.lemmas.Bool.Decides.{nat_tests}
 use Rattle.sm_words.specs.Words.{reg, put, kept, add16, nth, word_at, bit}
 use Rattle.insn_decode.specs.Code.{insn_of, length_of}
@@ -39,6 +39,9 @@ pub record Calm (c : List ℕ) (pc six seven : ℕ) : Type 0 where
   pub six_is : reg c 6 ≡ six
   pub seven_is : reg c 7 ≡ seven
   pub here : reg c 0 ≡ pc
+
+moved : (c : List ℕ) (pc pc' six seven : ℕ) → pc ≡ pc' → Calm c pc six seven → Calm c pc' six seven
+moved c pc pc' six seven e h = record { long = h.long; nine = h.nine; three = h.three; six_is = h.six_is; seven_is = h.seven_is; here = h.here ∙ e }
 
 calm_of : (c x : List ℕ) (pc six seven : ℕ) → length x ≡ 16 → reg x 0 ≡ pc → reg x 3 ≡ 0 → reg x 6 ≡ six → reg x 7 ≡ seven → Calm (confined true c x) pc six seven
 unfolding confined
@@ -92,9 +95,6 @@ cmp_carry x r v c long e =
 carry_says : (x v : ℕ) → x < 65536 → v < 65536 → (b : Bool) → carry_of x v ≡ b → cond b (x ≤ v) (v < x)
 carry_says x v hx hv b e = by b e
   where
-    total : ℕ
-    total = low Word (low Word v) + low Word (complement Word (low Word x)) + 1
-
     sum : low Word (low Word v) + low Word (complement Word (low Word x)) + 1 ≡ v + 65536 - x
     sum = omega arith
 
@@ -137,7 +137,7 @@ module _ (terms : Terms) (key : List ℕ) (m : Module) (text : List ℕ) (caller
   even_at : (k : ℕ) → (t0 + 2 * k) % 2 ≡ 0
   even_at k = let s0 = shape.text_start in omega arith
 
-  small_at : (k : ℕ) → k < 38 → t0 + 2 * k < 65000 + 504
+  small_at : (k : ℕ) → k < 38 → t0 + 2 * k < 65504
   small_at k lt = let r = facts.room in let o = shape.text_order in let h = shape.text_high in omega arith
 
   -- a step that reads and writes nothing
@@ -265,100 +265,69 @@ module _ (terms : Terms) (key : List ℕ) (m : Module) (text : List ℕ) (caller
     from_7 go c h =
         let c1 = next_core (compares n 6) c [] in
         let h1 : Calm c1 (t0 + 14 + 4) six seven = cmp_calm n 6 (t0 + 14) six seven c (even_at 7) (omega (arith, small_at 9)) h in
-        let here1 : reg c1 0 ≡ t0 + 18 = h1.here ∙ (let e : t0 + 14 + 4 ≡ t0 + 18 = omega arith in e) in
         let carry : bit 1 (reg c1 2) ≡ one_if (carry_of n six) = cmp_carry n 6 six c h.long (put_other_reg c 0 _ 6 (λ e. absurd (omega arith)) ∙ h.six_is) in
         let f = facts.few in
         before_cmp n 6 7 c (omega arith) h.here met_7
-        (turn c1 here1 (record { long = h1.long; nine = h1.nine; three = h1.three; six_is = h1.six_is; seven_is = h1.seven_is; here = here1 }) carry (carry_of n six) refl (carry_says n six (omega arith) small6))
+        (turn c1 (moved c1 (t0 + 14 + 4) (t0 + 18) six seven (omega arith) h1) carry (carry_of n six) refl (carry_says n six (omega arith) small6))
       where
-        turn : (c1 : List ℕ) → reg c1 0 ≡ t0 + 18 → Calm c1 (t0 + 18) six seven → bit 1 (reg c1 2) ≡ one_if (carry_of n six) → (b : Bool) → carry_of n six ≡ b → ((b : Bool) → carry_of n six ≡ b → cond b (n ≤ six) (six < n)) → Alike c1
-        turn c1 here h carry true e says =
-            before_jump Carry (pos 26) 9 c1 true (omega arith) here met_9 (ap (λ b. b == 1) carry ∙ ap (λ b. one_if b == 1) e)
+        far : kept 0 (add16 (t0 + 18 + 2) (distance (pos 26))) ≡ t0 + 72
+        far = let a = small_at 36 (omega arith) in let b = shape.text_start in omega arith
+
+        turn : (c1 : List ℕ) → Calm c1 (t0 + 18) six seven → bit 1 (reg c1 2) ≡ one_if (carry_of n six) → (b : Bool) → carry_of n six ≡ b → ((b : Bool) → carry_of n six ≡ b → cond b (n ≤ six) (six < n)) → Alike c1
+        turn c1 h carry true e says =
+            before_jump Carry (pos 26) 9 c1 true (omega arith) h.here met_9 (ap (λ b. b == 1) carry ∙ ap (λ b. one_if b == 1) e)
             (exits _ (jump_calm Carry (pos 26) (t0 + 18) (t0 + 72) six seven c1 true (even_at 9) (omega (arith, small_at 9)) far h))
-          where
-            far : kept 0 (add16 (t0 + 18 + 2) (distance (pos 26))) ≡ t0 + 72
-            far = let a = small_at 36 (omega arith) in let b = shape.text_start in omega arith
-        turn c1 here h carry false e says =
-            before_jump Carry (pos 26) 9 c1 false (omega arith) here met_9 (ap (λ b. b == 1) carry ∙ ap (λ b. one_if b == 1) e)
-            (next (jump_calm Carry (pos 26) (t0 + 18) (t0 + 72) six seven c1 false (even_at 9) (omega (arith, small_at 9)) far h))
-          where
-            far : kept 0 (add16 (t0 + 18 + 2) (distance (pos 26))) ≡ t0 + 72
-            far = let a = small_at 36 (omega arith) in let b = shape.text_start in omega arith
+        turn c1 h carry false e says =
+            before_jump Carry (pos 26) 9 c1 false (omega arith) h.here met_9 (ap (λ b. b == 1) carry ∙ ap (λ b. one_if b == 1) e)
+            (go _ (moved _ (t0 + 18 + 2) (t0 + 20) six seven (omega arith) (jump_calm Carry (pos 26) (t0 + 18) (t0 + 72) six seven c1 false (even_at 9) (omega (arith, small_at 9)) far h)) (says false e))
 
-            next : Calm (jump_core Carry (pos 26) false c1) (t0 + 18 + 2) six seven → Alike (jump_core Carry (pos 26) false c1)
-            next h = go _ (record { long = h.long; nine = h.nine; three = h.three; six_is = h.six_is; seven_is = h.seven_is; here = h.here ∙ (let e : t0 + 18 + 2 ≡ t0 + 20 = omega arith in e) }) (says false e)
+  module _ (six seven : ℕ) (small6 : six < 65536) (small7 : seven < 65536)
+      (rest : R da db) (go : holds m.text seven ≡ false → (c : List ℕ) → Calm c (t0 + 20) six seven → six < n → Alike c) where
+    out_low : seven < t0 → holds m.text seven ≡ false
+    out_low lt = and_left (nat_le t0 seven) (nat_lt seven m.text.end) (lt-leb t0 seven lt)
 
-module _ (terms : Terms) (key : List ℕ) (m : Module) (text : List ℕ) (caller : ℕ) (shape : Shape m) (n p : ℕ) (facts : StubFacts m text n p) (R : List ℕ → List ℕ → Type 0) (da db : List ℕ) (six seven : ℕ) (small6 : six < 65536) (small7 : seven < 65536)
-    (rest : R da db) (go : holds m.text seven ≡ false → (c : List ℕ) → Calm c (m.text.start + 20) six seven → six < n → Alike terms key m text caller shape n p facts R da db c) where
-  abbrev k0 : ℕ
-  k0 = m.text.start
+    out_high : m.text.end ≤ seven → holds m.text seven ≡ false
+    out_high le = and_right (nat_le t0 seven) (nat_lt seven m.text.end) (le-ltb seven m.text.end le)
 
-  abbrev pub Ends_alike : List ℕ → Type 0
-  Ends_alike c = Alike terms key m text caller shape n p facts R da db c
+    seven_on : holds m.text seven ≡ false → (c : List ℕ) → Calm c (t0 + 14) six seven → Alike c
+    seven_on out c h = from_7 six seven small6 small7 out rest (go out) c h
 
-  moved : (c : List ℕ) (pc pc' : ℕ) → pc ≡ pc' → Calm c pc six seven → Calm c pc' six seven
-  moved c pc pc' e h = record { long = h.long; nine = h.nine; three = h.three; six_is = h.six_is; seven_is = h.seven_is; here = h.here ∙ e }
+    from_3 : (c : List ℕ) → Calm c (t0 + 6) six seven → Alike c
+    from_3 c h =
+        let e = m.text.end in
+        let c1 = next_core (compares e 7) c [] in
+        let h1 : Calm c1 (t0 + 6 + 4) six seven = cmp_calm e 7 (t0 + 6) six seven c (even_at 3) (omega (arith, small_at 5)) h in
+        let carry : bit 1 (reg c1 2) ≡ one_if (carry_of e seven) = cmp_carry e 7 seven c h.long (put_other_reg c 0 _ 7 (λ e. absurd (omega arith)) ∙ h.seven_is) in
+        let hi = shape.text_high in
+        before_cmp e 7 3 c (omega arith) h.here met_3
+        (turn c1 (moved c1 (t0 + 6 + 4) (t0 + 10) six seven (omega arith) h1) carry (carry_of e seven) refl (carry_says e seven (omega arith) small7 (carry_of e seven) refl))
+      where
+        far : kept 0 (add16 (t0 + 10 + 2) (distance (pos 1))) ≡ t0 + 14
+        far = let a = small_at 36 (omega arith) in let b = shape.text_start in omega arith
 
-  even_k : (k : ℕ) → (k0 + 2 * k) % 2 ≡ 0
-  even_k k = let s0 = shape.text_start in omega arith
+        turn : (c1 : List ℕ) → Calm c1 (t0 + 10) six seven → bit 1 (reg c1 2) ≡ one_if (carry_of m.text.end seven) → (b : Bool) → carry_of m.text.end seven ≡ b → cond (carry_of m.text.end seven) (m.text.end ≤ seven) (seven < m.text.end) → Alike c1
+        turn c1 h carry true e says =
+            before_jump Carry (pos 1) 5 c1 true (omega arith) h.here met_5 (ap (λ b. b == 1) carry ∙ ap (λ b. one_if b == 1) e)
+            (seven_on (out_high (subst (λ b. cond b (m.text.end ≤ seven) (seven < m.text.end)) e says)) _ (jump_calm Carry (pos 1) (t0 + 10) (t0 + 14) six seven c1 true (even_at 5) (omega (arith, small_at 5)) far h))
+        turn c1 h carry false e says =
+            before_jump Carry (pos 1) 5 c1 false (omega arith) h.here met_5 (ap (λ b. b == 1) carry ∙ ap (λ b. one_if b == 1) e)
+            (loops _ six seven (moved _ (t0 + 10 + 2) (t0 + 12) six seven (omega arith) (jump_calm Carry (pos 1) (t0 + 10) (t0 + 14) six seven c1 false (even_at 5) (omega (arith, small_at 5)) far h)))
 
-  small_k : (k : ℕ) → k < 38 → k0 + 2 * k < 65504
-  small_k k lt = let r = facts.room in let o = shape.text_order in let h = shape.text_high in omega arith
+    pub from_0 : (c : List ℕ) → Calm c (t0 + 0) six seven → Alike c
+    from_0 c h =
+        let c1 = next_core (compares t0 7) c [] in
+        let h1 : Calm c1 (t0 + 0 + 4) six seven = cmp_calm t0 7 (t0 + 0) six seven c (even_at 0) (omega (arith, small_at 5)) h in
+        let carry : bit 1 (reg c1 2) ≡ one_if (carry_of t0 seven) = cmp_carry t0 7 seven c h.long (put_other_reg c 0 _ 7 (λ e. absurd (omega arith)) ∙ h.seven_is) in
+        before_cmp t0 7 0 c (omega arith) h.here met_0
+        (turn c1 (moved c1 (t0 + 0 + 4) (t0 + 4) six seven (omega arith) h1) carry (carry_of t0 seven) refl (carry_says t0 seven (omega (arith, small_at 5)) small7 (carry_of t0 seven) refl))
+      where
+        far : kept 0 (add16 (t0 + 4 + 2) (distance (pos 4))) ≡ t0 + 14
+        far = let a = small_at 36 (omega arith) in let b = shape.text_start in omega arith
 
-  out_low : seven < k0 → holds m.text seven ≡ false
-  out_low lt = by (nat_le k0 seven) refl
-    where
-      by : (b : Bool) → nat_le k0 seven ≡ b → (b && nat_lt seven m.text.end) ≡ false
-      by false e = refl
-      by true e = absurd (grind (arith, nat_tests))
-
-  out_high : m.text.end ≤ seven → holds m.text seven ≡ false
-  out_high le = by (nat_le k0 seven) (nat_lt seven m.text.end) refl
-    where
-      by : (a b : Bool) → nat_lt seven m.text.end ≡ b → (a && b) ≡ false
-      by true false e = refl
-      by false b e = refl
-      by true true e = absurd (grind (arith, nat_tests))
-
-  seven_on : holds m.text seven ≡ false → (c : List ℕ) → Calm c (k0 + 14) six seven → Ends_alike c
-  seven_on out c h = from_7 terms key m text caller shape n p facts R da db six seven small6 small7 out rest (go out) c h
-
-  from_3 : (c : List ℕ) → Calm c (k0 + 6) six seven → Ends_alike c
-  from_3 c h =
-      let e = m.text.end in
-      let c1 = next_core (compares e 7) c [] in
-      let h1 : Calm c1 (k0 + 6 + 4) six seven = cmp_calm e 7 (k0 + 6) six seven c (even_k 3) (omega (arith, small_k 5)) h in
-      let carry : bit 1 (reg c1 2) ≡ one_if (carry_of e seven) = cmp_carry e 7 seven c h.long (put_other_reg c 0 _ 7 (λ e. absurd (omega arith)) ∙ h.seven_is) in
-      let hi = shape.text_high in
-      before_cmp terms key m text caller shape n p facts R da db e 7 3 c (omega arith) h.here (met_3 terms key m text caller shape n p facts R da db)
-      (turn c1 (moved c1 (k0 + 6 + 4) (k0 + 10) (omega arith) h1) carry (carry_of e seven) refl (carry_says e seven (omega arith) small7 (carry_of e seven) refl))
-    where
-      far : kept 0 (add16 (k0 + 10 + 2) (distance (pos 1))) ≡ k0 + 14
-      far = let a = small_k 36 (omega arith) in let b = shape.text_start in omega arith
-
-      turn : (c1 : List ℕ) → Calm c1 (k0 + 10) six seven → bit 1 (reg c1 2) ≡ one_if (carry_of m.text.end seven) → (b : Bool) → carry_of m.text.end seven ≡ b → cond (carry_of m.text.end seven) (m.text.end ≤ seven) (seven < m.text.end) → Ends_alike c1
-      turn c1 h carry true e says =
-          before_jump terms key m text caller shape n p facts R da db Carry (pos 1) 5 c1 true (omega arith) h.here (met_5 terms key m text caller shape n p facts R da db) (ap (λ b. b == 1) carry ∙ ap (λ b. one_if b == 1) e)
-          (seven_on (out_high (subst (λ b. cond b (m.text.end ≤ seven) (seven < m.text.end)) e says)) _ (jump_calm Carry (pos 1) (k0 + 10) (k0 + 14) six seven c1 true (even_k 5) (omega (arith, small_k 5)) far h))
-      turn c1 h carry false e says =
-          before_jump terms key m text caller shape n p facts R da db Carry (pos 1) 5 c1 false (omega arith) h.here (met_5 terms key m text caller shape n p facts R da db) (ap (λ b. b == 1) carry ∙ ap (λ b. one_if b == 1) e)
-          (loops terms key m text caller shape n p facts R da db _ six seven (moved _ (k0 + 10 + 2) (k0 + 12) (omega arith) (jump_calm Carry (pos 1) (k0 + 10) (k0 + 14) six seven c1 false (even_k 5) (omega (arith, small_k 5)) far h)))
-
-  pub from_0 : (c : List ℕ) → Calm c (k0 + 0) six seven → Ends_alike c
-  from_0 c h =
-      let c1 = next_core (compares k0 7) c [] in
-      let h1 : Calm c1 (k0 + 0 + 4) six seven = cmp_calm k0 7 (k0 + 0) six seven c (even_k 0) (omega (arith, small_k 5)) h in
-      let carry : bit 1 (reg c1 2) ≡ one_if (carry_of k0 seven) = cmp_carry k0 7 seven c h.long (put_other_reg c 0 _ 7 (λ e. absurd (omega arith)) ∙ h.seven_is) in
-      before_cmp terms key m text caller shape n p facts R da db k0 7 0 c (omega arith) h.here (met_0 terms key m text caller shape n p facts R da db)
-      (turn c1 (moved c1 (k0 + 0 + 4) (k0 + 4) (omega arith) h1) carry (carry_of k0 seven) refl (carry_says k0 seven (omega (arith, small_k 5)) small7 (carry_of k0 seven) refl))
-    where
-      far : kept 0 (add16 (k0 + 4 + 2) (distance (pos 4))) ≡ k0 + 14
-      far = let a = small_k 36 (omega arith) in let b = shape.text_start in omega arith
-
-      turn : (c1 : List ℕ) → Calm c1 (k0 + 4) six seven → bit 1 (reg c1 2) ≡ one_if (carry_of k0 seven) → (b : Bool) → carry_of k0 seven ≡ b → cond (carry_of k0 seven) (k0 ≤ seven) (seven < k0) → Ends_alike c1
-      turn c1 h carry false e says =
-          before_jump terms key m text caller shape n p facts R da db NoCarry (pos 4) 2 c1 true (omega arith) h.here (met_2 terms key m text caller shape n p facts R da db) (ap (λ b. b == 0) carry ∙ ap (λ b. one_if b == 0) e)
-          (seven_on (out_low (subst (λ b. cond b (k0 ≤ seven) (seven < k0)) e says)) _ (jump_calm NoCarry (pos 4) (k0 + 4) (k0 + 14) six seven c1 true (even_k 2) (omega (arith, small_k 5)) far h))
-      turn c1 h carry true e says =
-          before_jump terms key m text caller shape n p facts R da db NoCarry (pos 4) 2 c1 false (omega arith) h.here (met_2 terms key m text caller shape n p facts R da db) (ap (λ b. b == 0) carry ∙ ap (λ b. one_if b == 0) e)
-          (from_3 _ (moved _ (k0 + 4 + 2) (k0 + 6) (omega arith) (jump_calm NoCarry (pos 4) (k0 + 4) (k0 + 14) six seven c1 false (even_k 2) (omega (arith, small_k 5)) far h)))
+        turn : (c1 : List ℕ) → Calm c1 (t0 + 4) six seven → bit 1 (reg c1 2) ≡ one_if (carry_of t0 seven) → (b : Bool) → carry_of t0 seven ≡ b → cond (carry_of t0 seven) (t0 ≤ seven) (seven < t0) → Alike c1
+        turn c1 h carry false e says =
+            before_jump NoCarry (pos 4) 2 c1 true (omega arith) h.here met_2 (ap (λ b. b == 0) carry ∙ ap (λ b. one_if b == 0) e)
+            (seven_on (out_low (subst (λ b. cond b (t0 ≤ seven) (seven < t0)) e says)) _ (jump_calm NoCarry (pos 4) (t0 + 4) (t0 + 14) six seven c1 true (even_at 2) (omega (arith, small_at 5)) far h))
+        turn c1 h carry true e says =
+            before_jump NoCarry (pos 4) 2 c1 false (omega arith) h.here met_2 (ap (λ b. b == 0) carry ∙ ap (λ b. one_if b == 0) e)
+            (from_3 _ (moved _ (t0 + 4 + 2) (t0 + 6) six seven (omega arith) (jump_calm NoCarry (pos 4) (t0 + 4) (t0 + 14) six seven c1 false (even_at 2) (omega (arith, small_at 5)) far h)))

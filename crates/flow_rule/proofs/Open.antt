@@ -95,8 +95,11 @@ module _ (terms : Terms) (key : List ℕ) (m : Module) (text : List ℕ) (caller
   abbrev t0 : ℕ
   t0 = m.text.start
 
+  inside : (a : ℕ) → t0 ≤ a → a < m.text.end → holds m.text a ≡ true
+  inside a low high = grind (arith, nat_tests)
+
   text_in : (a : ℕ) → t0 ≤ a → a < t0 + 76 → holds m.text a ≡ true
-  text_in a low high = let r = facts.room in let o = shape.text_order in let lt : a < m.text.end = omega arith in grind (arith, nat_tests)
+  text_in a low high = let r = facts.room in let o = shape.text_order in inside a low (omega arith)
 
   regular : (pc : ℕ) (insn : Insn) → met m.text text pc ≡ Some insn → RegularInsn insn
   regular = met_regular m text
@@ -368,14 +371,7 @@ module _ (terms : Terms) (key : List ℕ) (m : Module) (text : List ℕ) (caller
         sum = let r = facts.room in let o = shape.text_order in let h = shape.text_high in omega arith
 
     in_table : holds m.text (t0 + 2 * (38 + i)) ≡ true
-    in_table =
-        let r = facts.room in let o = shape.text_order in
-        let a : t0 ≤ t0 + 2 * (38 + i) = omega arith in
-        let b : t0 + 2 * (38 + i) < m.text.end = omega arith in
-        inside (t0 + 2 * (38 + i)) a b
-      where
-        inside : (a : ℕ) → t0 ≤ a → a < m.text.end → holds m.text a ≡ true
-        inside a low high = grind (arith, nat_tests)
+    in_table = let r = facts.room in let o = shape.text_order in inside (t0 + 2 * (38 + i)) (omega arith) (omega arith)
 
     value_is : (c d : List ℕ) → reg c 6 ≡ 2 * i → entry_word c d ≡ goal_of
     value_is c d six =
@@ -391,9 +387,6 @@ module _ (terms : Terms) (key : List ℕ) (m : Module) (text : List ℕ) (caller
 
     goal_in : holds m.text goal_of ≡ true
     goal_in = let h1 = (facts.table i lt).1 in let h2 = (facts.table i lt).2 in inside goal_of (omega arith) h2
-      where
-        inside : (a : ℕ) → t0 ≤ a → a < m.text.end → holds m.text a ≡ true
-        inside a low high = grind (arith, nat_tests)
 
     core_both : AgreeCore m.text (put_val core_val 0 (Known goal_of)) (entered ca (entry_word ca da)) (entered cb (entry_word cb db))
     core_both =

@@ -1,6 +1,6 @@
 -- The words of a stub, and its steps.
 use Rattle.std.proofs.Common.{◌≡◌, ◌⊎◌, inl, inr, ℕ, zero, suc, ◌+◌, ◌*◌, ◌%◌, ◌<◌, ◌≤◌, List, [], ◌∷◌, length, refl, ap, ◌∙◌, subst, arith, Bool, true, nat_lt, nat_le, ◌==◌, ◌&&◌, cond, Some, None}
-use Rattle.std.proofs.lemmas.Bool.{and_parts, cases_lt}
+use Rattle.std.proofs.lemmas.Bool.{and_parts, cases_lt, eqb-true, leb-true}
 use Rattle.std.proofs.lemmas.Bool.Decides.{nat_tests}
 use Rattle.sm_words.specs.Words.{nth, word_at}
 use Rattle.insn_decode.specs.Code.{insn_of, length_of}
@@ -23,12 +23,8 @@ words_at : (m : Module) (text : List ℕ) (k : ℕ) (ws : List ℕ) → words_ar
 words_at m text k [] e i lt = absurd (omega arith)
 words_at m text k (w ∷ ws) e zero lt =
     let h = and_parts (text_word m text k == w) (words_are m text (k + 1) ws) e in
-    let h0 = h.0 in
     let f : k + zero ≡ k = omega arith in
-    ap (λ i. text_word m text i) f ∙ is_word (text_word m text k) w h0
-  where
-    is_word : (x w : ℕ) → (x == w) ≡ true → x ≡ w
-    is_word x w e = grind (arith, nat_tests)
+    ap (λ i. text_word m text i) f ∙ eqb-true (text_word m text k) w h.0
 words_at m text k (w ∷ ws) e (suc i) lt =
     let h = and_parts (text_word m text k == w) (words_are m text (k + 1) ws) e in
     let f : k + suc i ≡ k + 1 + i = omega arith in
@@ -66,15 +62,12 @@ stub_facts m text e =
     let p = text_word m text 15 in
     let h = seven (nat_le (76 + 2 * n) (size_of m.text)) (words_are m text 0 (stub_front m.text.start m.text.end m.ram.start n p)) (nat_le 1 n) (nat_le n 64) (nat_le (m.ram.start + 4) p) (p % 2 == 0) (nat_le p m.ram.end) (table_fine m text n n) e in
     record {
-      room = le (76 + 2 * n) (size_of m.text) h.0;
-      some = le 1 n h.2;
-      few = le n 64 h.3;
+      room = leb-true (76 + 2 * n) (size_of m.text) h.0;
+      some = leb-true 1 n h.2;
+      few = leb-true n 64 h.3;
       words = λ i lt. ap (λ i. text_word m text i) (let f : i ≡ 0 + i = omega arith in f) ∙ words_at m text 0 (stub_front m.text.start m.text.end m.ram.start n p) h.1 i lt;
       table = table_at m text n n h.4;
     }
-  where
-    le : (x y : ℕ) → nat_le x y ≡ true → x ≤ y
-    le x y e = grind (arith, nat_tests)
 
 -- ---- met at an address
 module _ (m : Module) (text : List ℕ) where
