@@ -1,7 +1,7 @@
 -- The sections that are written have the sizes of those that were placed.
 use Rattle.std.proofs.Common.{ℕ, ◌≡◌, ◌+◌, ◌-◌, ◌*◌, ◌<◌, ◌≤◌, Bool, true, false, cond, List, [], ◌∷◌, ◌++◌, length, map, get_or, set, Option, Some, None, is_some, Result, Ok, Err, nat_lt, nat_eq, refl, ap, sym, subst, ◌∙◌, length-append, arith}
-use Rattle.std.specs.Prelude.{flat_map, ℤ}
-use Rattle.std.specs.List.{All, slice_index_or}
+use Rattle.std.specs.Prelude.{flat_map, option_map, ok_or, slice_get, ℤ}
+use Rattle.std.specs.List.{All}
 use Rattle.std.proofs.lemmas.Bool.Decides.{nat_tests}
 use Rattle.std.proofs.lemmas.List.{length-map, map-append, map-set, get_or-map}
 use Rattle.std.proofs.lemmas.List.Elements.{All-push, All-set}
@@ -21,7 +21,7 @@ use Rattle.asm_text.specs.declared.unit.SectionKind.{SectionKind}
 use Rattle.asm_text.specs.declared.unit.SectionKind.TheVariants.{Code as CodeKind, Data as DataKind, Bss as BssKind}
 use Rattle.asm_text.specs.declared.statement.Statement.{Statement}
 use Rattle.asm_text.specs.declared.statement.Statement.TheVariants.{Section, Label, Global, Word, Space, Jump, Code}
-use Rattle.asm_text.specs.Emission.{Meanings, Emitted, statement_bytes, grown, with_statement, in_last, opened_section, emitted, field_number, jump_bytes, jump_over, reach, is_near}
+use Rattle.asm_text.specs.Emission.{Meanings, Emitted, statement_bytes, grown, with_statement, in_last, opened, emitted, field_number, jump_bytes, jump_over, reach, is_near}
 use Rattle.asm_text.specs.internal.Emitted.{newest_section}
 use Rattle.sm_words.specs.Bytes.{word_bytes}
 use Rattle.asm_text.specs.Encoding.{extension, code_bytes, jump_word, encoded_first}
@@ -31,15 +31,15 @@ use Rattle.asm_text.specs.Statements.{statement_size, kind_takes}
 
 -- what a section and its head share
 pub record Shape : Type 0 where
-  pub name : List ℕ
+  pub name : Option (List ℕ)
   pub kind : SectionKind
   pub size : ℕ
 
 abbrev pub shape_of : SectionValue → Shape
-shape_of s = record { name = s.name; kind = s.kind; size = s.size }
+shape_of s = record { name = Some s.name; kind = s.kind; size = s.size }
 
 abbrev pub head_shape : Meanings → Head → Shape
-head_shape m h = record { name = slice_index_or m.sections h.name []; kind = h.kind; size = h.size }
+head_shape m h = record { name = slice_get m.sections h.name; kind = h.kind; size = h.size }
 
 abbrev pub IsFilled : SectionValue → Type 0
 IsFilled s = length s.bytes ≡ kept_size s.kind s.size
@@ -191,7 +191,7 @@ taken_agree m n e f p q s a t goes =
         let sections : set e.sections (length e.sections - 1) (grown last (statement_size s) bytes) ≡ f.sections = ap (λ (x : Emitted). x.sections) same in
         let kinds : last.kind ≡ t.head.kind = ap (λ (x : Shape). x.kind) l.same in
         let sizes : last.size ≡ t.head.size = ap (λ (x : Shape). x.size) l.same in
-        let names : last.name ≡ slice_index_or m.sections t.head.name [] = ap (λ (x : Shape). x.name) l.same in
+        let names : Some last.name ≡ slice_get m.sections t.head.name = ap (λ (x : Shape). x.name) l.same in
         let n' = same_number m e p a in
         let at : length e.sections - 1 ≡ length p.heads - 1 = omega arith in
         let bytes_are : length bytes ≡ kept_size last.kind (statement_size s) = bytes_size m n (length e.sections - 1) last.size last.kind s bytes (ap (λ k. kind_takes k s) kinds ∙ t.takes_it) is in
@@ -208,11 +208,24 @@ taken_agree m n e f p q s a t goes =
           filled = subst (All IsFilled) sections (All-set IsFilled e.sections (length e.sections - 1) (grown last (statement_size s) bytes) full a.filled);
         }
       where
-        shape_more : (last : SectionValue) → last.name ≡ slice_index_or m.sections t.head.name [] → last.kind ≡ t.head.kind → last.size ≡ t.head.size
+        shape_more : (last : SectionValue) → Some last.name ≡ slice_get m.sections t.head.name → last.kind ≡ t.head.kind → last.size ≡ t.head.size
             → shape_of (grown last (statement_size s) bytes) ≡ head_shape m (record { name = t.head.name; kind = t.head.kind; size = t.head.size + statement_size s })
         shape_more last names kinds sizes = λ i. record { name = names i; kind = kinds i; size = sizes i + statement_size s }
 
 -- ---- a line
+
+-- a section that is opened
+pub record IsOpened (m : Meanings) (e f : Emitted) (number : ℕ) (kind : SectionKind) : Type 0 where
+  pub name : List ℕ
+  pub named : slice_get m.sections number ≡ Some name
+  pub is : opened e kind name ≡ f
+
+pub is_opened : (m : Meanings) (n : ℕ) (e f : Emitted) (number : ℕ) (kind : SectionKind) → emitted m n e (Section number kind) ≡ Ok f → IsOpened m e f number kind
+is_opened m n e f number kind k = by (slice_get m.sections number) refl k
+  where
+    by : (o : Option (List ℕ)) → slice_get m.sections number ≡ o → ok_or (option_map (opened e kind) o) (Place n) ≡ Ok f → IsOpened m e f number kind
+    by None named j = absurd cc
+    by (Some name) named j = record { name = name; named = named; is = ok_is _ f j }
 
 section_agree : (m : Meanings) (n : ℕ) (e f : Emitted) (p q : Placed) (name : ℕ) (kind : SectionKind) → Agree m e p → placed_section n p name kind ≡ Ok q → emitted m n e (Section name kind) ≡ Ok f → Agree m f q
 section_agree m n e f p q name kind a placed_ok emitted_ok = by (has_section p.heads name) (nat_eq (length p.heads) MAX_SECTIONS) placed_ok
@@ -225,21 +238,24 @@ section_agree m n e f p q name kind a placed_ok emitted_ok = by (has_section p.h
     by false true k = absurd cc
     by false false k =
         let heads : p.heads ++ (record { name = name; kind = kind; size = 0 }) ∷ [] ≡ q.heads = ap (λ (r : Placed). r.heads) (ok_is _ q k) in
-        let sections : e.sections ++ opened_section m name kind ∷ [] ≡ f.sections = ap (λ (r : Emitted). r.sections) (ok_is _ f emitted_ok) in
+        let o = is_opened m n e f name kind emitted_ok in
+        let section : SectionValue = record { name = o.name; kind = kind; size = 0; bytes = [] } in
+        let sections : e.sections ++ section ∷ [] ≡ f.sections = ap (λ (r : Emitted). r.sections) o.is in
         record {
           shapes = ap (map shape_of) (sym sections)
-              ∙ (map-append shape_of e.sections (opened_section m name kind ∷ [])
-              ∙ (ap (λ xs. xs ++ head_shape m (record { name = name; kind = kind; size = 0 }) ∷ []) a.shapes
+              ∙ (map-append shape_of e.sections (section ∷ [])
+              ∙ (ap (λ xs. xs ++ shape_of section ∷ []) a.shapes
+              ∙ (ap (λ t. map (head_shape m) p.heads ++ (record { name = t; kind = kind; size = 0 }) ∷ []) (sym o.named)
               ∙ (sym (map-append (head_shape m) p.heads ((record { name = name; kind = kind; size = 0 }) ∷ []))
-              ∙ ap (map (head_shape m)) heads)));
-          filled = subst (All IsFilled) sections (All-push IsFilled e.sections (opened_section m name kind) a.filled (empty kind));
+              ∙ ap (map (head_shape m)) heads))));
+          filled = subst (All IsFilled) sections (All-push IsFilled e.sections section a.filled (empty kind));
         }
       where
         empty : (kind : SectionKind) → 0 ≡ kept_size kind 0
         empty CodeKind = refl
         empty _ = refl
 
-pub label_heads : (n : ℕ) (p q : Placed) (name : ℕ) → in_section n p (last_head p.heads) (Label name) ≡ Ok q → p.heads ≡ q.heads
+label_heads : (n : ℕ) (p q : Placed) (name : ℕ) → in_section n p (last_head p.heads) (Label name) ≡ Ok q → p.heads ≡ q.heads
 label_heads n p q name e = by (last_head p.heads) e
   where
     by_label : (h : Head) (c d : Bool) → cond c (Err (Twice n)) (cond d (Err (TooMany n)) (Ok (record { heads = p.heads; labels = p.labels ++ name ∷ []; spots = set p.spots name (Some (record { section = length p.heads - 1; offset = h.size })) }))) ≡ Ok q → p.heads ≡ q.heads

@@ -1,5 +1,6 @@
 -- Names are ASCII.
-use Rattle.std.proofs.Common.{ℕ, ◌≡◌, ◌<◌, Bool, true, false, ◌==◌, nat_le, List, [], length, get_or, refl, subst, arith}
+use Rattle.std.proofs.Common.{ℕ, ◌≡◌, ◌<◌, Bool, true, false, ◌==◌, nat_le, List, [], length, get_or, Some, refl, ap, subst, ◌∙◌, arith}
+use Rattle.std.specs.Prelude.{option_map, slice_get}
 use Rattle.std.specs.Str.{IsAscii}
 use Rattle.std.specs.List.{AllPass}
 use Rattle.std.specs.Borrow.{Bor}
@@ -8,6 +9,7 @@ use Rattle.std.proofs.lemmas.Bool.{and_parts}
 use Rattle.std.proofs.lemmas.Bool.Decides.{nat_tests}
 use Rattle.std.proofs.lemmas.List.{get_or-map, length-map}
 use Rattle.std.proofs.lemmas.List.Sums.{AllPass-from_list_all}
+use Rattle.std.proofs.lemmas.Option.{slice_get_within, slice_get-get_or, slice_get-map, get_or_from_slice_get}
 use Rattle.std.proofs.lemmas.Str.Ascii.{IsAscii-from_all}
 use Rattle.asm_text.specs.internal.Emitted.{AreNames}
 use Rattle.asm_text.specs.internal.Maps.{texts_in}
@@ -35,6 +37,12 @@ name_is_ascii name e =
     IsAscii-from_all name (λ k d low. low_byte (get_or name k d) (all k d low))
 
 -- one of these names
+pub named_at : (names : List (List ℕ)) (k : ℕ) (name : List ℕ) → AreNames names → slice_get names k ≡ Some name → is_name name ≡ true
+named_at names k name are is = subst (λ t. is_name t ≡ true) (get_or_from_slice_get names k name name is) (are k name (slice_get_within names k name is))
+
+pub name_is : (names : List (Bor (List ℕ))) (k : ℕ) (d : Bor (List ℕ)) → k < length names → slice_get (texts_in names) k ≡ Some (get_or names k d).now
+name_is names k d low = slice_get-map (λ (n : Bor (List ℕ)). n.now) names k ∙ ap (option_map (λ (n : Bor (List ℕ)). n.now)) (slice_get-get_or names k d low)
+
 pub name_at : (names : List (Bor (List ℕ))) (k : ℕ) (d : Bor (List ℕ)) → AreNames (texts_in names) → k < length names → is_name (get_or names k d).now ≡ true
 name_at names k d are low =
     let within : k < length (texts_in names) = omega (arith, length-map names (λ (n : Bor (List ℕ)). n.now)) in

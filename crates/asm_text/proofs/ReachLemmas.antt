@@ -19,7 +19,7 @@ use Rattle.asm_text.specs.declared.unit.AsmFault.{AsmFault}
 use Rattle.asm_text.specs.declared.unit.SectionKind.TheVariants.{Code as CodeKind, Data as DataKind, Bss as BssKind}
 use Rattle.asm_text.specs.declared.unit.SectionKind.{SectionKind}
 use Rattle.asm_text.specs.Assembly.{name_count, symbol_order, meanings, unit_for, with_emitted, with_stop, with_placed, assembled_source, assembled}
-use Rattle.asm_text.specs.Emission.{Meanings, Emitted, nothing, emitted, emitted_from, statement_bytes, field_number, with_statement, in_last, grown, opened_section, reach, is_near, jump_over, jump_bytes}
+use Rattle.asm_text.specs.Emission.{Meanings, Emitted, nothing, emitted, emitted_from, statement_bytes, field_number, with_statement, in_last, grown, reach, is_near, jump_over, jump_bytes}
 use Rattle.asm_text.specs.internal.Emitted.{newest_section}
 use Rattle.sm_words.specs.Bytes.{word_bytes}
 use Rattle.asm_text.specs.Encoding.{code_bytes, jump_word, is_coded}
@@ -36,7 +36,7 @@ use Rattle.asm_text.proofs.EmittingLemmas.{next_place}
 use Rattle.asm_text.proofs.EvenLemmas.{AreEven, IsSound, source_sound, IsEvenPlaced, source_even, nowhere_even, even_head, placed_even, all_even}
 use Rattle.asm_text.proofs.JumpLemmas.{jumps_are_meant, jumps_lead}
 use Rattle.asm_text.proofs.KeptLemmas.{source_kept}
-use Rattle.asm_text.proofs.LockLemmas.{Agree, Shape, SomeLast, same_number, last_there, ok_is, IsTaken, taken, agree_more}
+use Rattle.asm_text.proofs.LockLemmas.{Agree, Shape, SomeLast, same_number, last_there, ok_is, IsTaken, taken, is_opened, agree_more}
 use Rattle.asm_text.proofs.MeaningLemmas.{coded_means}
 use Rattle.asm_text.proofs.OrderLemmas.{length_below, below_at}
 use Rattle.asm_text.proofs.PlacedLemmas.{or_not}
@@ -109,7 +109,9 @@ last_keeps m n e f s k = by (newest_section e.sections) refl k
     by (Some last) is j = by_bytes last (statement_bytes m n (length e.sections - 1) last.size s) is j
 
 line_keeps : (m : Meanings) (n : ℕ) (e f : Emitted) (s : Statement ℕ) → emitted m n e s ≡ Ok f → Keeps e.sections f.sections
-line_keeps m n e f (Section name kind) k = subst (λ (x : Emitted). Keeps e.sections x.sections) (ok_is _ f k) (keeps_push e.sections (opened_section m name kind))
+line_keeps m n e f (Section name kind) k =
+    let o = is_opened m n e f name kind k in
+    subst (λ (x : Emitted). Keeps e.sections x.sections) o.is (keeps_push e.sections (record { name = o.name; kind = kind; size = 0; bytes = [] }))
 line_keeps m n e f (Label name) k = subst (λ (x : Emitted). Keeps e.sections x.sections) (ok_is e f k) (keeps_same e.sections)
 line_keeps m n e f (Global name) k = subst (λ (x : Emitted). Keeps e.sections x.sections) (ok_is e f k) (keeps_same e.sections)
 line_keeps m n e f (Word field) k = last_keeps m n e f (Word field) k

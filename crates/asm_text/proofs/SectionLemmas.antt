@@ -8,7 +8,7 @@ use Rattle.asm_text.specs.declared.statement.Statement.TheVariants.{Section, Lab
 use Rattle.asm_text.specs.declared.unit.AsmFault.{AsmFault}
 use Rattle.asm_text.specs.declared.unit.SectionKind.{SectionKind}
 use Rattle.asm_text.specs.Assembly.{name_count, meanings, assembled}
-use Rattle.asm_text.specs.Emission.{Meanings, Emitted, nothing, emitted, emitted_from, statement_bytes, with_statement, in_last, grown, opened_section}
+use Rattle.asm_text.specs.Emission.{Meanings, Emitted, nothing, emitted, emitted_from, statement_bytes, with_statement, in_last, grown}
 use Rattle.asm_text.specs.internal.Emitted.{newest_section}
 use Rattle.asm_text.specs.Parts.{SectionValue, UnitValue}
 use Rattle.asm_text.specs.Placing.{Placed, nowhere, spot_of, placed, placed_from}
@@ -16,7 +16,7 @@ use Rattle.asm_text.specs.Sections.{Line, PutsBytes, begins_section, up_to_secti
 use Rattle.asm_text.specs.Source.{SourceRead, source_read}
 use Rattle.asm_text.specs.Statements.{statement_size}
 use Rattle.asm_text.proofs.EmittingLemmas.{next_place}
-use Rattle.asm_text.proofs.LockLemmas.{Agree, last_there, ok_is, jump_size, IsTaken, taken, agree_more}
+use Rattle.asm_text.proofs.LockLemmas.{Agree, last_there, ok_is, jump_size, IsTaken, taken, IsOpened, is_opened, agree_more}
 use Rattle.asm_text.proofs.ReachLemmas.{next_line, accepted}
 
 -- ---- the last section
@@ -93,12 +93,12 @@ line s bytes = record { statement = s; bytes = bytes }
 put_more : (s : Statement ℕ) (bytes : List ℕ) (lines : List Line) → PutsBytes s bytes → All (λ l. PutsBytes l.statement l.bytes) lines → All (λ l. PutsBytes l.statement l.bytes) (line s bytes ∷ lines)
 put_more s bytes lines h all = All-cons (λ (l : Line). PutsBytes l.statement l.bytes) (line s bytes) lines h all
 
-section_written : (m : Meanings) (n : ℕ) (e g f : Emitted) (rest : List (Statement ℕ)) (name : ℕ) (kind : SectionKind) → g.sections ≡ e.sections ++ opened_section m name kind ∷ [] → Written g f rest → Written e f (Section name kind ∷ rest)
-section_written m n e g f rest name kind new w =
+section_written : (m : Meanings) (e g f : Emitted) (rest : List (Statement ℕ)) (name : ℕ) (kind : SectionKind) → IsOpened m e g name kind → Written g f rest → Written e f (Section name kind ∷ rest)
+section_written m e g f rest name kind o w =
     let here = bytes_in_order (up_to_section w.lines) in
     let others = map bytes_in_order (by_section w.lines) in
     let old = bytes_in e.sections in
-    let sections : bytes_in g.sections ≡ old ++ [] ∷ [] = ap bytes_in new ∙ map-append (λ (s : SectionValue). s.bytes) e.sections (opened_section m name kind ∷ []) in
+    let sections : bytes_in g.sections ≡ old ++ [] ∷ [] = ap (λ (x : Emitted). bytes_in x.sections) (sym o.is) ∙ map-append (λ (s : SectionValue). s.bytes) e.sections ((record { name = o.name; kind = kind; size = 0; bytes = [] }) ∷ []) in
     record {
       lines = line (Section name kind) [] ∷ w.lines;
       are = ap (λ l. Section name kind ∷ l) w.are;
@@ -138,7 +138,7 @@ in_last_written : (m : Meanings) (n : ℕ) (e g f : Emitted) (p q : Placed) (res
 in_last_written m n e g f p q rest s other puts a t goes w = put_written e g f rest s other (put_last m n e g p q s puts a t goes) w
 
 one_line : (m : Meanings) (n : ℕ) (e g f : Emitted) (p q : Placed) (rest : List (Statement ℕ)) (s : Statement ℕ) → Agree m e p → placed n p s ≡ Ok q → emitted m n e s ≡ Ok g → Written g f rest → Written e f (s ∷ rest)
-one_line m n e g f p q rest (Section name kind) a j k w = section_written m n e g f rest name kind (ap (λ (x : Emitted). x.sections) (sym (ok_is _ g k))) w
+one_line m n e g f p q rest (Section name kind) a j k w = section_written m e g f rest name kind (is_opened m n e g name kind k) w
 one_line m n e g f p q rest (Label name) a j k w = passed_written e f rest (Label name) refl refl (subst (λ (x : Emitted). Written x f rest) (sym (ok_is e g k)) w)
 one_line m n e g f p q rest (Global name) a j k w = passed_written e f rest (Global name) refl refl (subst (λ (x : Emitted). Written x f rest) (sym (ok_is e g k)) w)
 one_line m n e g f p q rest (Word field) a j k w =

@@ -1,88 +1,52 @@
 -- What a source gives keeps what a unit keeps.
-use Rattle.std.proofs.Common.{ℕ, suc, ◌≡◌, ◌≢◌, ◌+◌, ◌-◌, ◌*◌, ◌<◌, ◌≤◌, Bool, true, false, cond, not, is_some, List, [], ◌∷◌, ◌++◌, length, map, get_or, set, Option, Some, None, Result, Ok, Err, nat_eq, refl, ap, sym, subst, ◌∙◌, length-append, arith, ◌⊎◌, inl, inr}
-use Rattle.std.specs.Prelude.{fold, filter, IsTrue}
+use Rattle.std.proofs.Common.{ℕ, ◌≡◌, ◌≢◌, ◌+◌, ◌-◌, ◌*◌, ◌<◌, ◌≤◌, Bool, true, false, cond, not, is_some, List, [], ◌∷◌, ◌++◌, length, map, get_or, set, Option, Some, None, Result, Ok, Err, nat_eq, refl, ap, sym, subst, ◌∙◌, length-append, arith, ◌⊎◌, inl, inr}
+use Rattle.std.specs.Prelude.{fold, filter, slice_get, IsTrue}
 use Rattle.std.specs.List.{All, AllPairs, slice_index_or}
 use Rattle.std.proofs.lemmas.Bool.{cases_lt}
 use Rattle.std.proofs.lemmas.List.{length-map, length-set, get_or-map, get_or_past}
-use Rattle.std.proofs.lemmas.List.Elements.{All-push, All-set, All-append, All-cons}
+use Rattle.std.proofs.lemmas.List.Elements.{All-append, All-cons}
 use Rattle.std.proofs.lemmas.List.Quantifiers.{position-Some}
-use Rattle.std.proofs.lemmas.Option.{slice_get_within, get_or_from_slice_get}
+use Rattle.std.proofs.lemmas.Option.{slice_get_within, slice_get-get_or, get_or_from_slice_get}
 use Rattle.insn_decode.specs.declared.insn.Insn.TheVariants.{Two, One}
-use Rattle.asm_text.specs.declared.TheConstants.{MAX_SECTIONS}
 use Rattle.asm_text.specs.declared.placing.Head.{Head}
 use Rattle.asm_text.specs.declared.placing.Spot.{Spot}
 use Rattle.asm_text.specs.declared.unit.AsmFault.{AsmFault}
-use Rattle.asm_text.specs.declared.unit.AsmFault.TheVariants.{Twice, TooMany}
 use Rattle.asm_text.specs.declared.unit.AsmRelocation.{AsmRelocation}
-use Rattle.asm_text.specs.declared.unit.SectionKind.{SectionKind}
 use Rattle.asm_text.specs.declared.statement.Field.TheVariants.{Name}
 use Rattle.asm_text.specs.declared.statement.Statement.{Statement}
 use Rattle.asm_text.specs.declared.statement.Statement.TheVariants.{Section, Label, Global, Word, Space, Jump, Code}
 use Rattle.asm_text.specs.Assembly.{name_count, symbol_order, meanings, unit_for}
-use Rattle.asm_text.specs.Emission.{Meanings, Emitted, nothing, emitted, emitted_from, statement_bytes, relocation_at, relocation_if, statement_relocations, second_word, with_statement, in_last, grown, opened_section}
+use Rattle.asm_text.specs.Emission.{Meanings, Emitted, nothing, emitted, emitted_from, statement_bytes, relocation_at, relocation_if, statement_relocations, second_word, with_statement, in_last, grown}
 use Rattle.asm_text.specs.internal.Emitted.{newest_section, AreNames}
 use Rattle.asm_text.specs.internal.Kept.{IsSource}
-use Rattle.asm_text.specs.internal.Known.{AreNamed, IsNamed}
 use Rattle.asm_text.specs.Parts.{SectionValue, SymbolValue, is_name, IsSectionValue, IsSymbolValue, IsAsmRelocation, IsUnit}
 use Rattle.asm_text.specs.internal.Placed.{IsPlaced, names_in}
-use Rattle.asm_text.specs.Placing.{Placed, nowhere, spot_of, has_section, placed_section, within, last_head, placed, placed_from, unrefused}
+use Rattle.asm_text.specs.Placing.{Placed, nowhere, spot_of, within, placed_from, unrefused}
 use Rattle.asm_text.specs.Source.{SourceRead}
 use Rattle.asm_text.specs.Statements.{statement_size}
 use Rattle.asm_text.specs.Symbols.{is_global_name, local_labels, once, once_by, below, order_of, symbol_by, symbol_for, symbols_for, symbol_number, symbol_numbers}
-use Rattle.asm_text.proofs.EmittingLemmas.{all_agree, small_sections, next_place, some_head}
-use Rattle.asm_text.proofs.LockLemmas.{Agree, Shape, shape_of, head_shape, same_number, ok_is, IsTaken, taken, label_heads}
+use Rattle.asm_text.proofs.EmittingLemmas.{all_agree, small_sections, some_head}
+use Rattle.asm_text.proofs.LockLemmas.{Agree, Shape, shape_of, head_shape, same_number, ok_is, is_opened}
+use Rattle.asm_text.proofs.NameLemmas.{named_at}
 use Rattle.asm_text.proofs.OrderLemmas.{length_below}
 use Rattle.asm_text.proofs.OrderedLemmas.{IsOrder, order_kept}
 
 -- ---- distinct things
 
 -- equal elements of a list without equal ones stand at one place
-distinct_place : {X : Type 0} (xs : List X) (a b : ℕ) (d : X) → AllPairs (λ x y. x ≢ y) xs → a < length xs → b < length xs → get_or xs a d ≡ get_or xs b d → a ≡ b
-distinct_place xs a b d differ low_a low_b same = by (cases_lt a b)
+distinct_place : {X : Type 0} (xs : List X) (a b : ℕ) (x : X) → AllPairs (λ x y. x ≢ y) xs → slice_get xs a ≡ Some x → slice_get xs b ≡ Some x → a ≡ b
+distinct_place xs a b x differ at_a at_b = by (cases_lt a b)
   where
+    same : get_or xs a x ≡ get_or xs b x
+    same = get_or_from_slice_get xs a x x at_a ∙ sym (get_or_from_slice_get xs b x x at_b)
+
     by_more : (b < a) ⊎ (a ≤ b) → b ≤ a → a ≡ b
-    by_more (inl less) most = absurd (differ b a d less low_a (sym same))
+    by_more (inl less) most = absurd (differ b a x less (slice_get_within xs a x at_a) (sym same))
     by_more (inr least) most = omega arith
 
     by : (a < b) ⊎ (b ≤ a) → a ≡ b
-    by (inl less) = absurd (differ a b d less low_b same)
+    by (inl less) = absurd (differ a b x less (slice_get_within xs b x at_b) same)
     by (inr most) = by_more (cases_lt b a) most
-
--- ---- the names of sections
-
-named_section : (k n : ℕ) (p q : Placed) (name : ℕ) (kind : SectionKind) → All (λ (h : Head). h.name < k) p.heads → name < k → placed_section n p name kind ≡ Ok q → All (λ (h : Head). h.name < k) q.heads
-named_section k n p q name kind are low e = by (has_section p.heads name) (nat_eq (length p.heads) MAX_SECTIONS) e
-  where
-    by : (c d : Bool) → cond c (Err (Twice n)) (cond d (Err (TooMany n)) (Ok (record { heads = p.heads ++ (record { name = name; kind = kind; size = 0 }) ∷ []; labels = p.labels; spots = p.spots }))) ≡ Ok q → All (λ (h : Head). h.name < k) q.heads
-    by true d j = absurd cc
-    by false true j = absurd cc
-    by false false j =
-        let heads : p.heads ++ (record { name = name; kind = kind; size = 0 }) ∷ [] ≡ q.heads = ap (λ (r : Placed). r.heads) (ok_is _ q j) in
-        subst (All (λ (h : Head). h.name < k)) heads (All-push (λ (h : Head). h.name < k) p.heads (record { name = name; kind = kind; size = 0 }) are low)
-
-named_taken : (k : ℕ) (p q : Placed) (s : Statement ℕ) → All (λ (h : Head). h.name < k) p.heads → IsTaken p q s → All (λ (h : Head). h.name < k) q.heads
-named_taken k p q s are t =
-    let within = slice_get_within p.heads (length p.heads - 1) t.head t.is in
-    let here : t.head.name < k = subst (λ (h : Head). h.name < k) (last_at t.head t.is) (are (length p.heads - 1) t.head within) in
-    subst (All (λ (h : Head). h.name < k)) (sym t.grown_by.heads) (All-set (λ (h : Head). h.name < k) p.heads (length p.heads - 1) (record { name = t.head.name; kind = t.head.kind; size = t.head.size + statement_size s }) here are)
-  where
-    last_at : (h : Head) → last_head p.heads ≡ Some h → get_or p.heads (length p.heads - 1) h ≡ h
-    last_at h is = get_or_from_slice_get p.heads (length p.heads - 1) h h is
-
-named_more : (k n : ℕ) (p q : Placed) (s : Statement ℕ) → All (λ (h : Head). h.name < k) p.heads → IsNamed k s → placed n p s ≡ Ok q → All (λ (h : Head). h.name < k) q.heads
-named_more k n p q (Section name kind) are low e = named_section k n p q name kind are low e
-named_more k n p q (Global name) are low e = subst (All (λ (h : Head). h.name < k)) (ap (λ (r : Placed). r.heads) (ok_is p q e)) are
-named_more k n p q (Label name) are low e = subst (All (λ (h : Head). h.name < k)) (label_heads n p q name e) are
-named_more k n p q (Word field) are low e = named_taken k p q (Word field) are (taken n p q (Word field) (λ h. refl) e)
-named_more k n p q (Space size) are low e = named_taken k p q (Space size) are (taken n p q (Space size) (λ h. refl) e)
-named_more k n p q (Jump c t) are low e = named_taken k p q (Jump c t) are (taken n p q (Jump c t) (λ h. refl) e)
-named_more k n p q (Code insn x y) are low e = named_taken k p q (Code insn x y) are (taken n p q (Code insn x y) (λ h. refl) e)
-
-heads_named : (k n : ℕ) (p q : Placed) (statements : List (Statement ℕ)) → All (λ (h : Head). h.name < k) p.heads → AreNamed k statements → placed_from n p statements ≡ Ok q → All (λ (h : Head). h.name < k) q.heads
-heads_named k n p q [] are named e = subst (All (λ (h : Head). h.name < k)) (ap (λ (r : Placed). r.heads) (ok_is p q e)) are
-heads_named k n p q (s ∷ rest) are named e =
-    let x = next_place n p s rest q e in
-    heads_named k (n + 1) x.after q rest (named_more k n p x.after s are (named 0 s (omega arith)) x.is) (λ j d h. named (suc j) d (omega arith)) x.goes
 
 -- ---- sections
 
@@ -95,16 +59,13 @@ section_shape m e p a k d low =
     let two : get_or (map (head_shape m) p.heads) k (shape_of d) ≡ head_shape m (get_or p.heads k some_head) = get_or-map (head_shape m) p.heads k some_head (shape_of d) within in
     sym one ∙ (ap (λ ss. get_or ss k (shape_of d)) a.shapes ∙ two)
 
-section_name : (m : Meanings) (e : Emitted) (p : Placed) → Agree m e p → (k : ℕ) (d : SectionValue) → k < length e.sections → (get_or e.sections k d).name ≡ slice_index_or m.sections (get_or p.heads k some_head).name []
+section_name : (m : Meanings) (e : Emitted) (p : Placed) → Agree m e p → (k : ℕ) (d : SectionValue) → k < length e.sections → Some (get_or e.sections k d).name ≡ slice_get m.sections (get_or p.heads k some_head).name
 section_name m e p a k d low = ap (λ (x : Shape). x.name) (section_shape m e p a k d low)
 
-sections_are : (m : Meanings) (e : Emitted) (p : Placed) (names : ℕ) → Agree m e p → IsPlaced names p → AreNames m.sections → All (λ (h : Head). h.name < length m.sections) p.heads → All IsSectionValue e.sections
-sections_are m e p names a sound are heads k d low =
-    let n = same_number m e p a in
-    let within : k < length p.heads = omega arith in
-    let number : (get_or p.heads k some_head).name < length m.sections = heads k some_head within in
+sections_are : (m : Meanings) (e : Emitted) (p : Placed) (names : ℕ) → Agree m e p → IsPlaced names p → AreNames m.sections → All IsSectionValue e.sections
+sections_are m e p names a sound are k d low =
     record {
-      named = subst (λ (t : List ℕ). IsTrue (is_name t)) (sym (section_name m e p a k d low)) (true_is _ (are (get_or p.heads k some_head).name [] number));
+      named = true_is _ (named_at m.sections (get_or p.heads k some_head).name _ are (sym (section_name m e p a k d low)));
       small = small_sections m e p a sound.small k d low;
       filled = a.filled k d low;
     }
@@ -112,15 +73,17 @@ sections_are m e p names a sound are heads k d low =
     true_is : (b : Bool) → b ≡ true → IsTrue b
     true_is b e = e
 
-sections_apart : (m : Meanings) (e : Emitted) (p : Placed) (names : ℕ) → Agree m e p → IsPlaced names p → AllPairs (λ x y. x ≢ y) m.sections → All (λ (h : Head). h.name < length m.sections) p.heads
+sections_apart : (m : Meanings) (e : Emitted) (p : Placed) (names : ℕ) → Agree m e p → IsPlaced names p → AllPairs (λ x y. x ≢ y) m.sections
     → AllPairs (λ (x y : SectionValue). x.name ≢ y.name) e.sections
-sections_apart m e p names a sound differ heads i j d less low same =
+sections_apart m e p names a sound differ i j d less low same =
     let n = same_number m e p a in
     let low_i : i < length e.sections = omega arith in
     let within_i : i < length p.heads = omega arith in
     let within_j : j < length p.heads = omega arith in
-    let texts = sym (section_name m e p a i d low_i) ∙ (same ∙ section_name m e p a j d low) in
-    let numbers : (get_or p.heads i some_head).name ≡ (get_or p.heads j some_head).name = distinct_place m.sections (get_or p.heads i some_head).name (get_or p.heads j some_head).name [] differ (heads i some_head within_i) (heads j some_head within_j) texts in
+    let name : List ℕ = (get_or e.sections j d).name in
+    let name_i : slice_get m.sections (get_or p.heads i some_head).name ≡ Some name = sym (section_name m e p a i d low_i) ∙ ap Some same in
+    let name_j : slice_get m.sections (get_or p.heads j some_head).name ≡ Some name = sym (section_name m e p a j d low) in
+    let numbers : (get_or p.heads i some_head).name ≡ (get_or p.heads j some_head).name = distinct_place m.sections (get_or p.heads i some_head).name (get_or p.heads j some_head).name name differ name_i name_j in
     let at_i : get_or (names_in p.heads) i 0 ≡ (get_or p.heads i some_head).name = get_or-map (λ (h : Head). h.name) p.heads i some_head 0 within_i in
     let at_j : get_or (names_in p.heads) j 0 ≡ (get_or p.heads j some_head).name = get_or-map (λ (h : Head). h.name) p.heads j some_head 0 within_j in
     sound.differ i j 0 less (omega (arith, length-map p.heads (λ (h : Head). h.name))) (at_i ∙ (numbers ∙ sym at_j))
@@ -152,7 +115,8 @@ symbols_apart statements p names order o differ i j d less low same =
     let text : (k : ℕ) → k < length order → (get_or (symbols_for statements p names order) k d).name ≡ slice_index_or names (get_or order k 0) [] = λ k h.
     ap (λ (s : SymbolValue). s.name) (get_or-map (symbol_for statements p names) order k 0 d h) ∙ symbol_text (is_global_name statements (get_or order k 0)) (slice_index_or names (get_or order k 0) []) (spot_of p.spots (get_or order k 0)) in
     let texts = sym (text i low_i) ∙ (same ∙ text j low_j) in
-    let numbers : get_or order i 0 ≡ get_or order j 0 = distinct_place names (get_or order i 0) (get_or order j 0) [] differ (o.low i 0 low_i) (o.low j 0 low_j) texts in
+    let name_i = slice_get-get_or names (get_or order i 0) [] (o.low i 0 low_i) ∙ ap Some texts in
+    let numbers : get_or order i 0 ≡ get_or order j 0 = distinct_place names (get_or order i 0) (get_or order j 0) _ differ name_i (slice_get-get_or names (get_or order j 0) [] (o.low j 0 low_j)) in
     o.differ i j 0 less low_j numbers
 
 -- ---- how many symbols
@@ -253,10 +217,11 @@ tied_last m symbols lines n e f s has t goes = by (newest_section e.sections) re
 
 tied_more : (m : Meanings) (symbols lines n : ℕ) (e f : Emitted) (s : Statement ℕ) → HasSymbols m symbols → IsTied symbols lines e → emitted m n e s ≡ Ok f → IsTied symbols (lines + 1) f
 tied_more m symbols lines n e f (Section name kind) has t k =
-    let size = length-append e.sections (opened_section m name kind ∷ []) in
+    let o = is_opened m n e f name kind k in
+    let size = length-append e.sections ((record { name = o.name; kind = kind; size = 0; bytes = [] }) ∷ []) in
     let few = t.few in
-    subst (IsTied symbols (lines + 1)) (ok_is _ f k) (record {
-      tied = more_sections (length e.sections) (length (e.sections ++ opened_section m name kind ∷ [])) symbols e.relocations (omega arith) t.tied;
+    subst (IsTied symbols (lines + 1)) o.is (record {
+      tied = more_sections (length e.sections) _ symbols e.relocations (omega arith) t.tied;
       few = omega arith;
     })
 tied_more m symbols lines n e f (Label name) has t k = subst (IsTied symbols (lines + 1)) (ok_is e f k) (record { tied = t.tied; few = let few = t.few in omega arith })
@@ -301,7 +266,6 @@ unit_kept s p e kept sound goes is =
     let m = meanings s p in
     let none : Agree (meanings s p) nothing (nowhere (name_count s)) = record { shapes = refl; filled = λ k d h. absurd (omega (arith, h)) } in
     let agree : Agree (meanings s p) e p = all_agree m 1 nothing e (nowhere (name_count s)) p s.statements none goes is in
-    let heads = heads_named (length s.tables.sections) 1 (nowhere (name_count s)) p s.statements (λ k d h. absurd (omega (arith, h))) kept.named goes in
     let order : IsOrder (name_count s) (symbol_order s p) = order_kept s.statements p (name_count s) sound.known in
     let tied : IsTied (length (symbol_order s p)) (0 + length s.statements) e = all_tied m (length (symbol_order s p)) 0 1 nothing e s.statements (has_symbols s p) (record { tied = λ k d h. absurd (omega (arith, h)); few = omega arith }) is in
     let number = same_number m e p agree in
@@ -312,9 +276,9 @@ unit_kept s p e kept sound goes is =
       few_sections = omega arith;
       few_symbols = let a = sound.labels in let b = kept.few_names in omega arith;
       few_relocations = let a = tied.few in let b = kept.few_statements in omega arith;
-      sections_kept = sections_are m e p (name_count s) agree sound kept.sections heads;
+      sections_kept = sections_are m e p (name_count s) agree sound kept.sections;
       symbols_kept = symbols_are (length e.sections) s.statements p s.tables.names (symbol_order s p) order kept.names (λ k spot at. let low : spot.section < length p.heads = sound.within k spot at in omega arith);
       relocations_kept = subst (λ n. All (IsAsmRelocation (length e.sections) n) e.relocations) (sym symbols) tied.tied;
-      sections_differ = sections_apart m e p (name_count s) agree sound kept.sections_differ heads;
+      sections_differ = sections_apart m e p (name_count s) agree sound kept.sections_differ;
       symbols_differ = symbols_apart s.statements p s.tables.names (symbol_order s p) order kept.names_differ;
     }

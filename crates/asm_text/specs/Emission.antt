@@ -1,5 +1,5 @@
 -- The bytes of the sections, line by line and without a gap, and the relocations; or the first jump that is refused.
-use Rattle.std.specs.Prelude.{ℕ, ◌+◌, ◌-◌, ◌*◌, ◌/◌, ◌==◌, nat_le, nat_lt, Bool, if◌then◌else◌, List, [], ◌∷◌, ◌++◌, length, slice_index_or, slice_get, slice_set, Option, Some, None, option_and_then, Result, Ok, Err, ℤ, pos, negsuc, ◌-ℤ◌}
+use Rattle.std.specs.Prelude.{ℕ, ◌+◌, ◌-◌, ◌*◌, ◌/◌, ◌==◌, nat_le, nat_lt, Bool, if◌then◌else◌, List, [], ◌∷◌, ◌++◌, length, slice_index_or, slice_get, slice_set, Option, Some, None, option_map, option_and_then, ok_or, Result, Ok, Err, ℤ, pos, negsuc, ◌-ℤ◌}
 use Rattle.sm_words.specs.Bytes.{word_bytes}
 use Rattle.insn_decode.specs.declared.insn.Condition.{Condition}
 use Rattle.insn_decode.specs.declared.insn.Insn.TheVariants.{Two, One}
@@ -105,13 +105,13 @@ abbrev pub in_last : Meanings → ℕ → Emitted → Option SectionValue → St
 in_last m n e None s = Err (Place n)
 in_last m n e (Some last) s = with_statement m e last s (statement_bytes m n (length e.sections - 1) last.size s)
 
--- the first bytes of a section
-abbrev pub opened_section : Meanings → ℕ → SectionKind → SectionValue
-opened_section m name kind = record { name = slice_index_or m.sections name []; kind = kind; size = 0; bytes = [] }
+-- a section more, without bytes
+abbrev pub opened : Emitted → SectionKind → List ℕ → Emitted
+opened e kind name = record { sections = e.sections ++ (record { name = name; kind = kind; size = 0; bytes = [] }) ∷ []; relocations = e.relocations }
 
--- line n
+-- line n; a section whose number has no name is refused, as a statement is where there is no section
 abbrev pub emitted : Meanings → ℕ → Emitted → Statement ℕ → Result Emitted AsmFault
-emitted m n e (Section name kind) = Ok (record { sections = e.sections ++ opened_section m name kind ∷ []; relocations = e.relocations })
+emitted m n e (Section name kind) = ok_or (option_map (opened e kind) (slice_get m.sections name)) (Place n)
 emitted m n e (Label name) = Ok e
 emitted m n e (Global name) = Ok e
 emitted m n e s = in_last m n e (slice_get e.sections (length e.sections - 1)) s

@@ -1,6 +1,6 @@
 //! The bytes of the sections, and the relocations.
 
-ghost use Rattle.std.specs.Prelude.{◌≡◌, ◌≢◌, ◌<◌, ◌≤◌, ◌+◌, ◌-◌, ◌*◌, ◌++◌, ◌^◌, ℕ, length, flat_map, Ok, Err, Some, OnOk, IfOk, IfErr, MatchResult};
+ghost use Rattle.std.specs.Prelude.{◌≡◌, ◌≢◌, ◌<◌, ◌≤◌, ◌+◌, ◌-◌, ◌*◌, ◌++◌, ◌^◌, ℕ, length, flat_map, Ok, Err, Some, true, OnOk, IfOk, IfErr, MatchResult};
 ghost use Rattle.std.specs.Option.{option_to_list};
 ghost use Rattle.arrayvec.specs.ArrayVec.{array_vec_len};
 ghost use Rattle.sm_words.specs.Bytes.{word_bytes};
@@ -9,6 +9,7 @@ ghost use Rattle.asm_text.specs.internal.Emitted.{meanings_value, emitted_of, ne
 ghost use Rattle.asm_text.specs.internal.Known.{IsBelow, IsKnown, IsNamed, AreKnown, AreNamed};
 ghost use Rattle.asm_text.specs.internal.Placed.{ArePlaced};
 ghost use Rattle.asm_text.specs.internal.Maps.{texts_in};
+ghost use Rattle.asm_text.specs.Parts.{is_name};
 ghost use Rattle.asm_text.specs.Statements.{statement_size};
 ghost use Rattle.asm_text.specs.Views.{section_value};
 ghost use Rattle.asm_text.specs.Encoding as encoding;
@@ -307,19 +308,11 @@ impl Emission {
         Ok(())
     }
 
-    fn open(
-        &mut self,
-        alloc: Global,
-        meanings: &Meanings<'_>,
-        name: usize,
-        kind: SectionKind,
-    ) -> Result<(), AllocError>
-        requires known { name < length meanings.now.sections.now }
-        requires names { AreNames (texts_in meanings.now.sections.now) }
-        ensures { OnOk result (spec.emitted (meanings_value meanings.now) 0 (emitted_of self.old)
-            (Statement.Section name kind) ≡ Ok (emitted_of self.new)) }
+    fn open(&mut self, alloc: Global, name: &[u8], kind: SectionKind) -> Result<(), AllocError>
+        requires { is_name name.now ≡ true }
+        ensures { OnOk result (emitted_of self.new ≡ spec.opened (emitted_of self.old) kind name.now) }
     {
-        let name = string_of(alloc, meanings.sections[name])?;
+        let name = string_of(alloc, name)?;
         self.sections.push(AsmSection {
             name,
             kind,
@@ -330,6 +323,7 @@ impl Emission {
     }
 
     // The statement of line n.
+    #[tactic(auto, using(crate::proofs::NameLemmas::name_at, crate::proofs::NameLemmas::name_is))]
     fn add(
         &mut self,
         alloc: Global,
@@ -350,7 +344,7 @@ impl Emission {
     {
         match statement {
             Statement::Section { name, kind } => {
-                self.open(alloc, meanings, name, kind)?;
+                self.open(alloc, meanings.sections[name], kind)?;
                 Ok(())
             }
             Statement::Label(_) | Statement::Global(_) => Ok(()),
