@@ -1,11 +1,11 @@
 -- What the lines of an accepted source write, and where its jumps lead.
-use Rattle.std.proofs.Common.{ℕ, zero, suc, ◌≡◌, ◌≢◌, ◌+◌, ◌-◌, ◌%◌, ◌<◌, Bool, true, false, cond, is_some, List, [], ◌∷◌, ◌++◌, length, map, get_or, set, take, drop, Option, Some, None, Result, Ok, Err, nat_eq, refl, ap, sym, subst, ◌∙◌, append_assoc, arith, ◌⊎◌, inl, inr}
+use Rattle.std.proofs.Common.{ℕ, zero, suc, ◌≡◌, ◌≢◌, ◌+◌, ◌-◌, ◌%◌, ◌<◌, Bool, true, false, cond, is_some, List, [], ◌∷◌, ◌++◌, length, get_or, set, take, drop, Option, Some, None, Result, Ok, Err, nat_eq, refl, ap, sym, subst, ◌∙◌, append_assoc, arith, ◌⊎◌, inl, inr}
 use Rattle.std.specs.List.{All, Contains}
-use Rattle.std.specs.Prelude.{fold, option_map, slice_get, slice_index_or}
+use Rattle.std.specs.Prelude.{fold, option_map, slice_get}
 use Rattle.std.proofs.lemmas.Bool.Decides.{nat_tests}
 use Rattle.std.proofs.lemmas.List.Elements.{Contains-append_left, Contains-push}
 use Rattle.std.proofs.lemmas.List.Quantifiers.{position-Some}
-use Rattle.std.proofs.lemmas.List.{append-nil, length-map, length-set, get_or-map, get_or-set_same, get_or-set_other, take_at, drop_at}
+use Rattle.std.proofs.lemmas.List.{append-nil, length-set, get_or-set_same, get_or-set_other, take_at, drop_at}
 use Rattle.std.proofs.lemmas.Option.{slice_get_within, get_or_from_slice_get, slice_get-get_or}
 use Rattle.insn_decode.specs.declared.insn.Condition.{Condition}
 use Rattle.insn_decode.specs.declared.insn.Insn.{Insn}
@@ -31,7 +31,7 @@ use Rattle.asm_text.specs.Places.{StandsAt, Writes, CodeIsWritten, WordsAreWritt
 use Rattle.asm_text.specs.Placing.{Placed, nowhere, spot_of, last_head, placed, unrefused, placed_from}
 use Rattle.asm_text.specs.Source.{SourceRead, source_read}
 use Rattle.asm_text.specs.Statements.{statement_size, kind_takes}
-use Rattle.asm_text.specs.Symbols.{is_global_name, local_labels, once, once_by, below, order_of, symbol_number, symbol_by, symbol_for, symbols_for}
+use Rattle.asm_text.specs.Symbols.{is_global_name, local_labels, once, once_by, below, order_of, symbol_number, symbol_by}
 use Rattle.asm_text.proofs.EmittingLemmas.{next_place}
 use Rattle.asm_text.proofs.EvenLemmas.{AreEven, IsSound, source_sound, IsEvenPlaced, source_even, nowhere_even, even_head, placed_even, all_even}
 use Rattle.asm_text.proofs.JumpLemmas.{jumps_are_meant, jumps_lead}
@@ -40,6 +40,7 @@ use Rattle.asm_text.proofs.LockLemmas.{Agree, Shape, SomeLast, same_number, last
 use Rattle.asm_text.proofs.MeaningLemmas.{coded_means}
 use Rattle.asm_text.proofs.OrderLemmas.{length_below, below_at}
 use Rattle.asm_text.proofs.PlacedLemmas.{or_not}
+use Rattle.asm_text.proofs.SymbolLemmas.{each_symbol, symbol_has}
 
 -- ---- bytes that were written stay
 
@@ -315,9 +316,6 @@ unfolding order_of
 order_has statements p names k low =
     fold_has (fold once [] (local_labels statements p.labels)) (below names) k k (let size = length_below names in omega arith) (below_at names k k low)
 
-map_has : (f : ℕ → SymbolValue) (ks : List ℕ) (k : ℕ) → Contains ks k → Contains (map f ks) (f k)
-map_has f ks k has = (has.0, (let size = length-map ks f in let low = has.1 in omega arith), get_or-map f ks has.0 k (f k) has.1 ∙ ap f has.2)
-
 -- ---- an accepted source
 
 pub record IsAccepted (s : SourceRead) (u : UnitValue) : Type 0 where
@@ -352,15 +350,9 @@ labels_are_even text u k =
     let s : SourceRead = source_read text in
     let a = accepted s u k in
     let even = all_even 1 (nowhere (name_count s)) a.places s.statements (nowhere_even (name_count s)) (source_even text) a.goes in
-    subst (λ (v : UnitValue). All (λ s. s.value % 2 ≡ 0) v.symbols) a.unit (λ i d h. by s a.places even i d h)
-  where
-    by : (s : SourceRead) (p : Placed) → IsEvenPlaced p → (i : ℕ) (d : SymbolValue) → i < length (symbols_for s.statements p s.tables.names (symbol_order s p)) → (get_or (symbols_for s.statements p s.tables.names (symbol_order s p)) i d).value % 2 ≡ 0
-    by s p even i d h =
-        let make : ℕ → SymbolValue = symbol_for s.statements p s.tables.names in
-        let size = length-map (symbol_order s p) make in
-        let name : ℕ = get_or (symbol_order s p) i 0 in
-        subst (λ (x : SymbolValue). x.value % 2 ≡ 0) (sym (get_or-map make (symbol_order s p) i 0 d (omega arith)))
-        (even_symbol (is_global_name s.statements name) (slice_index_or s.tables.names name []) (spot_of p.spots name) (λ spot is. even.spots name spot is))
+    subst (λ (v : UnitValue). All (λ s. s.value % 2 ≡ 0) v.symbols) a.unit
+    (each_symbol (λ s. s.value % 2 ≡ 0) (is_global_name s.statements) s.tables.names a.places.spots (symbol_order s a.places)
+    (λ k name named. even_symbol (is_global_name s.statements k) name (spot_of a.places.spots k) (even.spots k)))
 
 -- bytes in the midst of others
 bytes_there : (all front bytes back : List ℕ) (here : ℕ) → all ≡ (front ++ bytes) ++ back → length front ≡ here → take (length bytes) (drop here all) ≡ bytes
@@ -387,10 +379,12 @@ reached_by s u number c name a known even line b j =
     let here : ℕ = b.head.size in
     let section : ℕ = length line.before.heads - 1 in
     let spot : Spot = record { section = section; offset = there } in
-    let make : ℕ → SymbolValue = symbol_for s.statements a.places s.tables.names in
-    let label : SymbolValue = symbol_by (is_global_name s.statements name) (slice_index_or s.tables.names name []) (Some spot) in
-    let is : make name ≡ label = ap (symbol_by (is_global_name s.statements name) (slice_index_or s.tables.names name [])) j.spot in
-    let has : Contains (symbols_for s.statements a.places s.tables.names (symbol_order s a.places)) (make name) = map_has make (symbol_order s a.places) name (order_has s.statements a.places (name_count s) name known) in
+    let global : Bool = is_global_name s.statements name in
+    let text : List ℕ = get_or s.tables.names name [] in
+    let label : SymbolValue = symbol_by global text (Some spot) in
+    let named : slice_get s.tables.names name ≡ Some text = slice_get-get_or s.tables.names name [] known in
+    let is = ap (option_map (λ t. symbol_by global t (spot_of a.places.spots name))) named ∙ ap (λ o. Some (symbol_by global text o)) j.spot in
+    let has = order_has s.statements a.places (name_count s) name known in
     record {
       section = section;
       here = here;
@@ -402,8 +396,8 @@ reached_by s u number c name a known even line b j =
       given = ap (λ (v : UnitValue). slice_get v.sections section) (sym a.unit) ∙ b.given;
       holds = bytes_there b.home.bytes b.front (word_bytes (jump_word c (reach here there))) b.back here (b.whole ∙ ap (λ bs. (b.front ++ bs) ++ b.back) j.are) b.size;
       means = λ w1 w2. jumps_are_meant c w1 w2 (reach here there) j.near;
-      symbol = subst (λ (v : UnitValue). Contains v.symbols label) a.unit (subst (Contains (symbols_for s.statements a.places s.tables.names (symbol_order s a.places))) is has);
-      named = slice_get-get_or s.tables.names name [] known;
+      symbol = subst (λ (v : UnitValue). Contains v.symbols label) a.unit (symbol_has (is_global_name s.statements) s.tables.names a.places.spots (symbol_order s a.places) has.0 name label is has.1 has.2);
+      named = named;
       beside = refl;
       reached = sym (jumps_lead here there (even_head line.before b.head line.even b.last) (even.spots name spot j.spot));
     }

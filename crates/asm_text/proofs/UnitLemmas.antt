@@ -21,15 +21,16 @@ use Rattle.asm_text.specs.internal.Emitted.{newest_section, AreNames}
 use Rattle.asm_text.specs.internal.Kept.{IsSource}
 use Rattle.asm_text.specs.Parts.{SectionValue, SymbolValue, is_name, IsSectionValue, IsSymbolValue, IsAsmRelocation, IsUnit}
 use Rattle.asm_text.specs.internal.Placed.{IsPlaced, names_in}
-use Rattle.asm_text.specs.Placing.{Placed, nowhere, spot_of, within, placed_from, unrefused}
+use Rattle.asm_text.specs.Placing.{Placed, nowhere, spot_of, placed_from, unrefused}
 use Rattle.asm_text.specs.Source.{SourceRead}
 use Rattle.asm_text.specs.Statements.{statement_size}
-use Rattle.asm_text.specs.Symbols.{is_global_name, local_labels, once, once_by, below, order_of, symbol_by, symbol_for, symbols_for, symbol_number, symbol_numbers}
+use Rattle.asm_text.specs.Symbols.{is_global_name, local_labels, once, once_by, below, order_of, symbol_by, symbol_number, symbol_numbers}
 use Rattle.asm_text.proofs.EmittingLemmas.{all_agree, small_sections, some_head}
 use Rattle.asm_text.proofs.LockLemmas.{Agree, Shape, shape_of, head_shape, same_number, ok_is, is_opened}
 use Rattle.asm_text.proofs.NameLemmas.{named_at}
 use Rattle.asm_text.proofs.OrderLemmas.{length_below}
 use Rattle.asm_text.proofs.OrderedLemmas.{IsOrder, order_kept}
+use Rattle.asm_text.proofs.SymbolLemmas.{symbol_at, symbols_at, each_symbol}
 
 -- ---- distinct things
 
@@ -98,22 +99,14 @@ symbol_text : (global : Bool) (name : List ℕ) (spot : Option Spot) → (symbol
 symbol_text global name None = refl
 symbol_text global name (Some s) = refl
 
-symbols_are : (sections : ℕ) (statements : List (Statement ℕ)) (p : Placed) (names : List (List ℕ)) (order : List ℕ) → IsOrder (length names) order → AreNames names
-    → ((k : ℕ) (s : Spot) → spot_of p.spots k ≡ Some s → s.section < sections) → All (IsSymbolValue sections) (symbols_for statements p names order)
-symbols_are sections statements p names order o are within k d low =
-    let here : k < length order = omega (arith, length-map order (symbol_for statements p names)) in
-    let number : get_or order k 0 < length names = o.low k 0 here in
-    subst (IsSymbolValue sections) (sym (get_or-map (symbol_for statements p names) order k 0 d here))
-    (symbol_is sections (is_global_name statements (get_or order k 0)) (slice_index_or names (get_or order k 0) []) (spot_of p.spots (get_or order k 0)) (are (get_or order k 0) [] number) (within (get_or order k 0)))
-
-symbols_apart : (statements : List (Statement ℕ)) (p : Placed) (names : List (List ℕ)) (order : List ℕ) → IsOrder (length names) order → AllPairs (λ x y. x ≢ y) names
-    → AllPairs (λ (x y : SymbolValue). x.name ≢ y.name) (symbols_for statements p names order)
-symbols_apart statements p names order o differ i j d less low same =
-    let size = length-map order (symbol_for statements p names) in
+symbols_apart : (f : ℕ → Bool) (names : List (List ℕ)) (spots : List (Option Spot)) (order : List ℕ) → IsOrder (length names) order → AllPairs (λ x y. x ≢ y) names
+    → AllPairs (λ (x y : SymbolValue). x.name ≢ y.name) (map (symbol_at f names spots) order)
+symbols_apart f names spots order o differ i j d less low same =
+    let size = length-map order (symbol_at f names spots) in
     let low_i : i < length order = omega arith in
     let low_j : j < length order = omega arith in
-    let text : (k : ℕ) → k < length order → (get_or (symbols_for statements p names order) k d).name ≡ slice_index_or names (get_or order k 0) [] = λ k h.
-    ap (λ (s : SymbolValue). s.name) (get_or-map (symbol_for statements p names) order k 0 d h) ∙ symbol_text (is_global_name statements (get_or order k 0)) (slice_index_or names (get_or order k 0) []) (spot_of p.spots (get_or order k 0)) in
+    let text : (k : ℕ) → k < length order → (get_or (map (symbol_at f names spots) order) k d).name ≡ get_or names (get_or order k 0) [] = λ k h.
+    ap (λ (s : SymbolValue). s.name) (get_or-map (symbol_at f names spots) order k 0 d h) ∙ symbol_text (f (get_or order k 0)) (get_or names (get_or order k 0) []) (spot_of spots (get_or order k 0)) in
     let texts = sym (text i low_i) ∙ (same ∙ text j low_j) in
     let name_i = slice_get-get_or names (get_or order i 0) [] (o.low i 0 low_i) ∙ ap Some texts in
     let numbers : get_or order i 0 ≡ get_or order j 0 = distinct_place names (get_or order i 0) (get_or order j 0) _ differ name_i (slice_get-get_or names (get_or order j 0) [] (o.low j 0 low_j)) in
@@ -270,15 +263,18 @@ unit_kept s p e kept sound goes is =
     let tied : IsTied (length (symbol_order s p)) (0 + length s.statements) e = all_tied m (length (symbol_order s p)) 0 1 nothing e s.statements (has_symbols s p) (record { tied = λ k d h. absurd (omega (arith, h)); few = omega arith }) is in
     let number = same_number m e p agree in
     let few = sound.few in
-    let symbols : length (symbols_for s.statements p s.tables.names (symbol_order s p)) ≡ length (symbol_order s p) = length-map (symbol_order s p) (symbol_for s.statements p s.tables.names) in
+    let are = symbols_at (is_global_name s.statements) s.tables.names p.spots (symbol_order s p) order.low in
+    let symbols = ap length are ∙ length-map (symbol_order s p) (symbol_at (is_global_name s.statements) s.tables.names p.spots) in
     let size = order_size s.statements p (name_count s) in
     record {
       few_sections = omega arith;
       few_symbols = let a = sound.labels in let b = kept.few_names in omega arith;
       few_relocations = let a = tied.few in let b = kept.few_statements in omega arith;
       sections_kept = sections_are m e p (name_count s) agree sound kept.sections;
-      symbols_kept = symbols_are (length e.sections) s.statements p s.tables.names (symbol_order s p) order kept.names (λ k spot at. let low : spot.section < length p.heads = sound.within k spot at in omega arith);
+      symbols_kept = each_symbol (IsSymbolValue (length e.sections)) (is_global_name s.statements) s.tables.names p.spots (symbol_order s p)
+          (λ k name named. symbol_is (length e.sections) (is_global_name s.statements k) name (spot_of p.spots k) (named_at s.tables.names k name kept.names named)
+          (λ spot at. let low : spot.section < length p.heads = sound.within k spot at in omega arith));
       relocations_kept = subst (λ n. All (IsAsmRelocation (length e.sections) n) e.relocations) (sym symbols) tied.tied;
       sections_differ = sections_apart m e p (name_count s) agree sound kept.sections_differ;
-      symbols_differ = symbols_apart s.statements p s.tables.names (symbol_order s p) order kept.names_differ;
+      symbols_differ = subst (AllPairs (λ (x y : SymbolValue). x.name ≢ y.name)) (sym are) (symbols_apart (is_global_name s.statements) s.tables.names p.spots (symbol_order s p) order kept.names_differ);
     }

@@ -6,7 +6,7 @@ use Rattle.asm_text.specs.Emission.{Meanings, Emitted, nothing, emitted_from}
 use Rattle.asm_text.specs.Parts.{UnitValue}
 use Rattle.asm_text.specs.Placing.{Placed, nowhere, placed_from, unrefused}
 use Rattle.asm_text.specs.Source.{SourceRead, source_read}
-use Rattle.asm_text.specs.Symbols.{order_of, symbols_for, symbol_numbers}
+use Rattle.asm_text.specs.Symbols.{is_global_name, order_of, symbols_for, symbol_numbers}
 
 -- how many names a source has
 abbrev pub name_count : SourceRead → ℕ
@@ -22,7 +22,7 @@ meanings s p = record { sections = s.tables.sections; spots = p.spots; symbols =
 abbrev pub unit_for : SourceRead → Placed → Emitted → UnitValue
 unit_for s p e = record {
   sections = e.sections;
-  symbols = symbols_for s.statements p s.tables.names (symbol_order s p);
+  symbols = symbols_for (is_global_name s.statements) s.tables.names p.spots (symbol_order s p);
   relocations = e.relocations;
 }
 

@@ -1,6 +1,6 @@
 -- The symbols of a source: local labels in their order, then the other names by first appearance.
-use Rattle.std.specs.Prelude.{ℕ, zero, suc, ◌==◌, Bool, true, false, not, List, [], ◌∷◌, ◌++◌, map, filter, fold, position, slice_index_or, Option, Some, None, is_some}
-use Rattle.std.specs.List.{list_any}
+use Rattle.std.specs.Prelude.{ℕ, zero, suc, ◌==◌, Bool, true, false, not, List, [], ◌∷◌, ◌++◌, map, filter, fold, position, slice_get, Option, Some, None, is_some, option_map}
+use Rattle.std.specs.List.{list_any, filter_map}
 use Rattle.asm_text.specs.declared.placing.Spot.{Spot}
 use Rattle.asm_text.specs.declared.statement.Statement.{Statement}
 use Rattle.asm_text.specs.declared.statement.Statement.TheVariants.{Global}
@@ -45,11 +45,12 @@ abbrev pub symbol_by : Bool → List ℕ → Option Spot → SymbolValue
 symbol_by global name None = record { name = name; global = true; home = None; value = 0 }
 symbol_by global name (Some spot) = record { name = name; global = global; home = Some spot.section; value = spot.offset }
 
-abbrev pub symbol_for : List (Statement ℕ) → Placed → List (List ℕ) → ℕ → SymbolValue
-symbol_for statements p names k = symbol_by (is_global_name statements k) (slice_index_or names k []) (spot_of p.spots k)
+-- of the name that has this number
+abbrev pub symbol_for : (ℕ → Bool) → List (List ℕ) → List (Option Spot) → ℕ → Option SymbolValue
+symbol_for is_global names spots k = option_map (λ name. symbol_by (is_global k) name (spot_of spots k)) (slice_get names k)
 
-abbrev pub symbols_for : List (Statement ℕ) → Placed → List (List ℕ) → List ℕ → List SymbolValue
-symbols_for statements p names order = map (symbol_for statements p names) order
+abbrev pub symbols_for : (ℕ → Bool) → List (List ℕ) → List (Option Spot) → List ℕ → List SymbolValue
+symbols_for is_global names spots order = filter_map (symbol_for is_global names spots) order
 
 -- the places of the symbols of the first so many names
 abbrev pub symbol_numbers : List ℕ → ℕ → List (Option ℕ)

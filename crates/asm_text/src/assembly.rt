@@ -10,7 +10,7 @@ ghost use Rattle.asm_text.specs.Unit.{unit_of};
 ghost use Rattle.asm_text.specs.Emission.{emitted_from, nothing};
 ghost use Rattle.asm_text.specs.internal.Emitted.{emitted_of};
 ghost use Rattle.asm_text.specs.internal.Numbering.{AreGlobals};
-ghost use Rattle.asm_text.specs.Symbols.{symbol_numbers, symbols_for};
+ghost use Rattle.asm_text.specs.Symbols.{is_global_name, symbol_numbers, symbols_for};
 ghost use Rattle.asm_text.specs.Views as views;
 
 use crate::MAX_SOURCE;
@@ -94,8 +94,8 @@ fn symbols_of(
     requires order { resolved.now.order.names.items ≡ spec.symbol_order (source_value source.now)
         (placed_of layout.now) }
     ensures { IfOk result (λ symbols. views.symbol_values symbols
-        ≡ symbols_for source.now.statements.items (placed_of layout.now) (source_value source.now).tables.names
-        (spec.symbol_order (source_value source.now) (placed_of layout.now))) }
+        ≡ symbols_for (is_global_name source.now.statements.items) (source_value source.now).tables.names
+        layout.now.spots.items (spec.symbol_order (source_value source.now) (placed_of layout.now))) }
 {
     symbols_in(
         alloc,

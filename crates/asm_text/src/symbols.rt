@@ -1,6 +1,6 @@
 //! The symbols of a source.
 
-ghost use Rattle.std.specs.Prelude.{◌≡◌, ◌<◌, ◌+◌, ◌^◌, [], ◌≤◌, List, ℕ, Some, map, length, filter, fold, slice_index_or, true, false, OnOk, IfOk, IfSome};
+ghost use Rattle.std.specs.Prelude.{◌≡◌, ◌<◌, ◌+◌, ◌^◌, [], ◌≤◌, List, ℕ, Some, length, filter, fold, slice_index_or, true, false, OnOk, IfOk, IfSome};
 ghost use Rattle.asm_text.specs.Parts.{is_name};
 ghost use Rattle.asm_text.specs.internal.Known.{AreKnown};
 ghost use Rattle.asm_text.specs.internal.Emitted.{AreNames};
@@ -174,9 +174,8 @@ pub fn symbols_in(
     requires globals { length globals.now ≡ length names.now }
     requires spots { length spots.now ≡ length names.now }
     requires sections { (k : ℕ) (spot : Spot) → spot_of spots.now k ≡ Some spot → spot.section < 2 ^ 32 }
-    ensures { IfOk result (λ symbols. symbol_values symbols ≡ map
-        (λ k. spec.symbol_by (slice_index_or globals.now k false) (slice_index_or (texts_in names.now) k [])
-        (spot_of spots.now k)) order.now) }
+    ensures { IfOk result (λ symbols. symbol_values symbols ≡ spec.symbols_for
+        (λ k. slice_index_or globals.now k false) (texts_in names.now) spots.now order.now) }
 {
     let mut symbols = Vec::new(alloc);
     for name in order {
