@@ -36,7 +36,7 @@ use Rattle.flow_rule.proofs.Cores.{AgreeCore, put_other_reg, mode, confined_kept
 use Rattle.flow_rule.specs.Arms.{stepped_regs, written_reg, written_regs, Walk, Meets, Stops, walked, walk_on, walk}
 use Rattle.arm_balance.specs.Met.{met}
 use Rattle.arm_balance.specs.Balance.{arm_next}
-use Rattle.flow_rule.proofs.Walks.{met_cycles, met_regs, met_words, MeetsJoin, time_to, walk_regs, walk_words, with_met, is_met, met_rest}
+use Rattle.flow_rule.proofs.Walks.{met_cycles, met_regs, met_words, MeetsJoin, time_to, walk_regs, walk_words, with_met, is_met, met_rest, if_always}
 use Rattle.flow_rule.proofs.Words.{NotIn, word, Shape, IsData, AgreeData}
 use Rattle.flow_rule.proofs.Runs.{at_rest, Passes}
 use Rattle.flow_rule.proofs.Instruction.{always_jumps, AgreeAt, Single, Here, Gone, after, does_it, jump_so, Parts, plain_parts, plain_kept, two_alike, one_alike, way_single, way_val, fetched}
@@ -200,10 +200,6 @@ module _ (terms : Terms) (key : List ℕ) (m : Module) (text : List ℕ) (caller
   one_long op w a c vs nc long =
       let insn = One op w a in
       conf_long c (does_freely insn c vs).core ∙ written_long true a _ (stepped w a (past insn c)) ∙ stepped_long w a (past insn c) ∙ length-set c 0 _ ∙ long
-
-  if_always : (a b c : Bool) (to next : ℕ) → cond (a && b && c) (Some to) None ≡ Some next → a ≡ true
-  if_always true b c to next e = refl
-  if_always false b c to next e = absurd cc
 
   jump_move : (cn : Condition) (off : ℤ) (x : PointState) (c d : List ℕ) → AgreeAt m x c d c d → met m.text text x.point.addr ≡ Some (Jump cn off) → is_always cn ≡ true → (step_jump terms m text (Jump cn off) cn x).violations ≡ [] →
       Moved x (step_jump terms m text (Jump cn off) cn x).gives c d (cycles_of (Jump cn off)) [] (met_words (Some (Jump cn off)) m x)

@@ -42,7 +42,7 @@ use Rattle.flow_rule.proofs.Labelling.{Under, Among}
 use Rattle.flow_rule.proofs.Runs.{at_rest, Ending, Stays, Left, Shut, Crossing}
 use Rattle.flow_rule.proofs.Decoding.{met_regular}
 use Rattle.flow_rule.proofs.Instruction.{landing_of, AgreeAt, even_at, weaken_at, RegularInsn, Landing, In, Out, after, does_it, fetched, Does_alike, Parts, plain_parts, two_alike, even, step_crossing}
-use Rattle.flow_rule.proofs.Stub.{StubFacts, met_one, met_two}
+use Rattle.flow_rule.proofs.Stub.{StubFacts, place_of_word, met_one, met_two}
 
 abbrev pub IsOpen : ℕ → Type 0
 IsOpen k = (k ≡ 10) ⊎ ((k ≡ 12) ⊎ ((k ≡ 14) ⊎ (k ≡ 16)))
@@ -103,13 +103,6 @@ module _ (terms : Terms) (key : List ℕ) (m : Module) (text : List ℕ) (caller
 
   regular : (pc : ℕ) (insn : Insn) → met m.text text pc ≡ Some insn → RegularInsn insn
   regular = met_regular m text
-
-  -- a place by its word
-  pub place_of_word : (a k : ℕ) → word_number m a ≡ k → a % 2 ≡ 0 → holds m.text a ≡ true → a ≡ t0 + 2 * k
-  place_of_word a k e ev h =
-      let s0 = shape.text_start in
-      let low : t0 ≤ a = grind (arith, nat_tests) in
-      omega arith
 
   word_at_place : (k : ℕ) → word_number m (t0 + 2 * k) ≡ k
   word_at_place k = omega arith
@@ -466,7 +459,7 @@ module _ (terms : Terms) (key : List ℕ) (m : Module) (text : List ℕ) (caller
   stub_crossing x ca da cb db at none = by (word_number m x.point.addr == 17) (is_open (word_number m x.point.addr)) refl refl at.entry none
     where
       place : (k : ℕ) → word_number m x.point.addr ≡ k → x.point.addr ≡ t0 + 2 * k
-      place k e = place_of_word x.point.addr k e (even_at m x ca da cb db at.agree) at.agree.in_text
+      place k e = place_of_word m x.point.addr k shape.text_start e (even_at m x ca da cb db at.agree) at.agree.in_text
 
       opened : IsOpen (word_number m x.point.addr) → reg ca 6 < n → reg ca 6 ≡ reg cb 6 → (step_of terms m text x).violations ≡ [] → Crossing terms m j (AtStub m n) (step_of terms m text x).gives (at_rest ca da) (at_rest cb db)
       opened (inl e) few equal none = at_10 x ca da cb db at.agree few equal none (place 10 e)

@@ -1,6 +1,6 @@
 -- The walks along a branch's arms, from a point and from one whose state it absorbs.
-use Rattle.std.proofs.Common.{◌≡◌, ℕ, zero, suc, ◌+◌, ◌*◌, ◌%◌, ◌≤◌, List, [], ◌∷◌, ◌++◌, map, refl, sym, ap, ◌∙◌, subst, arith, Bool, true, false, cond, nat_lt, ◌==◌, ◌&&◌, not, Option, Some, None, ℤ}
-use Rattle.std.proofs.lemmas.Bool.Decides.{nat_tests}
+use Rattle.std.proofs.Common.{◌≡◌, ℕ, zero, suc, ◌+◌, ◌%◌, List, [], ◌∷◌, ◌++◌, map, refl, sym, ap, ◌∙◌, subst, arith, Bool, true, false, cond, nat_lt, ◌==◌, ◌&&◌, not, Option, Some, None, ℤ}
+use Rattle.std.proofs.lemmas.Bool.{eqb-true}
 use Rattle.sm_words.specs.Words.{nth, kept, add16, word_at}
 use Rattle.insn_decode.specs.Code.{insn_of, is_always}
 use Rattle.sm_words.specs.declared.width.Width.{Width}
@@ -20,7 +20,7 @@ use Rattle.cpu_step.specs.Fetched.{insn_at, later_word, word_in, insn_from}
 use Rattle.arm_balance.specs.declared.Arm.{Arm}
 use Rattle.arm_balance.specs.Met.{text_byte, met}
 use Rattle.arm_balance.specs.Balance.{arm_next, arm_on}
-use Rattle.flow_rule.proofs.Walks.{met_words, MeetsJoin, met_rest, on_time, walked_alike}
+use Rattle.flow_rule.proofs.Walks.{met_words, MeetsJoin, met_rest, on_time, walked_alike, if_always}
 use Rattle.flow_rule.specs.Terms.{Terms}
 use Rattle.flow_rule.specs.declared.Val.{Val}
 use Rattle.flow_rule.specs.declared.Val.TheVariants.{Known, Secret}
@@ -40,7 +40,7 @@ use Rattle.flow_rule.specs.Verdict.{flow_step}
 use Rattle.flow_rule.specs.Arms.{Walk, Meets, written_words, walked, walk_on, walk, arm_start, first_walk, second_walk, arm_violations, step_arm}
 use Rattle.flow_rule.specs.Absorbs.{Absorbs}
 use Rattle.flow_rule.proofs.Plans.{none_left, none_right}
-use Rattle.flow_rule.proofs.Stub.{stub_facts}
+use Rattle.flow_rule.proofs.Stub.{place_of_word, stub_facts}
 use Rattle.flow_rule.proofs.Absorbing.{AbsorbsVal, AbsorbsEach, of_joins, nth_keeps, past_keeps, EvenPc}
 use Rattle.flow_rule.proofs.AbsorbingDone.{same_plan, reads_keep, writes_keep, does_keeps}
 
@@ -110,10 +110,6 @@ quiet call_string = record { violations = []; call_string = call_string; stops =
 if_first : (a b : Bool) (to next : ℕ) → cond (a && b) (Some to) None ≡ Some next → a ≡ true
 if_first true b to next e = refl
 if_first false b to next e = absurd cc
-
-if_always : (a b c : Bool) (to next : ℕ) → cond (a && b && c) (Some to) None ≡ Some next → a ≡ true
-if_always true b c to next e = refl
-if_always false b c to next e = absurd cc
 
 two_quiet : (join pc next : ℕ) (op : TwoOp) (w : Width) (s d : Operand) (r : List ℕ) (vs : List Val) →
     arm_next join pc (Some (Two op w s d)) ≡ Some next → return_turn (Two op w s d) pc r vs ≡ quiet r
@@ -254,13 +250,6 @@ module _ (terms : Terms) (m : Module) (text : List ℕ) where
           (insn_of w (later_word (text_byte m.text text) pc 2 1) (later_word (text_byte m.text text) pc 2 2))
           ≡ Some next) e on in absurd cc
 
-  at_word : (pc k : ℕ) → m.text.start % 2 ≡ 0 → pc % 2 ≡ 0 → holds m.text pc ≡ true → (word_number m pc == k) ≡ true →
-      pc ≡ m.text.start + 2 * k
-  at_word pc k start even inn e =
-      let low : m.text.start ≤ pc = grind (arith, nat_tests) in
-      let f : word_number m pc ≡ k = grind (arith, nat_tests) in
-      omega arith
-
   stub_alike : m.text.start % 2 ≡ 0 → has_stub m text ≡ true → Alike (step_stub terms m text)
   unfolding step_stub
   stub_alike start stub join next pc r q top low even inn on o none g =
@@ -280,7 +269,7 @@ module _ (terms : Terms) (m : Module) (text : List ℕ) where
       by true b e none g =
           let f = stub_facts m text stub in
           absurd (call_stops join next pc
-          (ap (word_at (text_byte m.text text)) (at_word pc 17 start even inn e) ∙ f.words 17 (omega arith)) on)
+          (ap (word_at (text_byte m.text text)) (place_of_word m pc 17 start (eqb-true (word_number m pc) 17 e) even inn) ∙ f.words 17 (omega arith)) on)
       by false true e none g = plain_alike join next pc r q top low even inn on o none g
       by false false e none g =
           let k = plain_alike join next pc r q top low even inn on o

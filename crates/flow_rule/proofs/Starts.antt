@@ -26,7 +26,7 @@ use Rattle.flow_rule.proofs.Begin.{Calm}
 
 pub shape_of : (m : Module) → IsSection m.text → IsSection m.ram → Shape m
 shape_of m text ram =
-    record { text_order = text.order; ram_order = ram.order; text_start = text.even_start; text_end = text.even_end; ram_start = ram.even_start; ram_end = ram.even_end; text_high = text.high }
+    record { text_order = text.order; text_start = text.even_start; text_end = text.even_end; ram_start = ram.even_start; ram_end = ram.even_end; text_high = text.high }
 
 -- ---- where a call begins
 publics : (s : Section) (k n a : ℕ) → Agrees s (nth n (replicate k Public) Secret) a a

@@ -8,7 +8,7 @@ use Rattle.insn_decode.specs.declared.insn.Insn.{Insn}
 use Rattle.mod_layout.specs.declared.Module.{Module}
 use Rattle.mod_layout.specs.Table.{holds, size_of}
 use Rattle.cpu_step.specs.Fetched.{insn_at, word_in, insn_from}
-use Rattle.flow_rule.specs.Stub.{text_word, words_are, table_fine, has_stub}
+use Rattle.flow_rule.specs.Stub.{text_word, word_number, words_are, table_fine, has_stub}
 use Rattle.arm_balance.specs.Met.{text_byte, met}
 use Rattle.entry_stubs.specs.Stub.{stub_front}
 
@@ -18,6 +18,10 @@ pub record StubFacts (m : Module) (text : List ℕ) (n p : ℕ) : Type 0 where
   pub few : n ≤ 64
   pub words : (i : ℕ) → i < 38 → text_word m text i ≡ nth i (stub_front m.text.start m.text.end m.ram.start n p) 0
   pub table : (i : ℕ) → i < n → (text_word m text (38 + i) % 2 ≡ 0) × (m.text.start + 76 + 2 * n ≤ text_word m text (38 + i)) × (text_word m text (38 + i) < m.text.end)
+
+-- a place by its word
+pub place_of_word : (m : Module) (a k : ℕ) → m.text.start % 2 ≡ 0 → word_number m a ≡ k → a % 2 ≡ 0 → holds m.text a ≡ true → a ≡ m.text.start + 2 * k
+place_of_word m a k start e even inn = let low : m.text.start ≤ a = grind (arith, nat_tests) in omega arith
 
 words_at : (m : Module) (text : List ℕ) (k : ℕ) (ws : List ℕ) → words_are m text k ws ≡ true → (i : ℕ) → i < length ws → text_word m text (k + i) ≡ nth i ws 0
 words_at m text k [] e i lt = absurd (omega arith)

@@ -1,5 +1,5 @@
 -- What is met at a point of an arm adds its cycles and what it writes to the rest of the walk.
-use Rattle.std.proofs.Common.{◌≡◌, ℕ, ◌+◌, ◌==◌, List, [], ◌++◌, refl, ap, arith, Bool, true, false, not, Option, Some, None}
+use Rattle.std.proofs.Common.{◌≡◌, ℕ, ◌+◌, ◌==◌, List, [], ◌++◌, refl, ap, arith, Bool, true, false, cond, ◌&&◌, not, Option, Some, None}
 use Rattle.std.proofs.lemmas.Bool.Decides.{nat_tests}
 use Rattle.insn_decode.specs.declared.insn.Insn.{Insn}
 use Rattle.mod_layout.specs.declared.Module.{Module}
@@ -64,6 +64,11 @@ pub met_rest : (o : Option Insn) (m : Module) (x : PointState) (rest : Walk) →
 met_rest o m x (Meets cycles regs words) meets = tt
 met_rest None m x (Stops addr) meets = meets
 met_rest (Some insn) m x (Stops addr) meets = meets
+
+-- where an arm goes on from a jump, the jump is always taken
+pub if_always : (a b c : Bool) (to next : ℕ) → cond (a && b && c) (Some to) None ≡ Some next → a ≡ true
+if_always true b c to next e = refl
+if_always false b c to next e = absurd cc
 
 -- an arm without a violation comes to the join in its time
 pub on_time : (branch time number : ℕ) (w : Walk) → arm_violations branch time number w ≡ [] →

@@ -37,7 +37,6 @@ NotIn k (n ∷ ns) = (k ≢ n) × NotIn k ns
 
 pub record Shape (m : Module) : Type 0 where
   pub text_order : m.text.start < m.text.end
-  pub ram_order : m.ram.start < m.ram.end
   pub text_start : m.text.start % 2 ≡ 0
   pub text_end : m.text.end % 2 ≡ 0
   pub ram_start : m.ram.start % 2 ≡ 0
