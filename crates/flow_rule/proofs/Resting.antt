@@ -1,5 +1,5 @@
 -- The walks along a branch's arms, from a point and from one whose state it absorbs.
-use Rattle.std.proofs.Common.{◌≡◌, ℕ, zero, suc, ◌+◌, ◌%◌, List, [], ◌∷◌, ◌++◌, map, refl, sym, ap, ◌∙◌, subst, arith, Bool, true, false, cond, nat_lt, ◌==◌, ◌&&◌, not, Option, Some, None, ℤ}
+use Rattle.std.proofs.Common.{◌≡◌, ℕ, zero, suc, ◌%◌, List, [], ◌∷◌, ◌++◌, map, refl, sym, ap, ◌∙◌, subst, arith, Bool, true, false, cond, nat_lt, ◌==◌, ◌&&◌, not, Option, Some, None, ℤ}
 use Rattle.std.proofs.lemmas.Bool.{eqb-true}
 use Rattle.sm_words.specs.Words.{nth, kept, add16, word_at}
 use Rattle.insn_decode.specs.Code.{insn_of, is_always}
