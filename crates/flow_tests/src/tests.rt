@@ -4,6 +4,7 @@ use arm_balance::read_arms;
 use flow_check::{Reason, Verdict, check, check_with};
 use mod_layout::{Module, Section};
 use std::alloc::Global;
+use std::ops::Range;
 use std::process::Abort;
 use std::test::Fail;
 
@@ -36,20 +37,19 @@ fn bytes_of(words: &[u16]) -> [u8; MOST] {
     bytes
 }
 
-// The verdict of a text of these words from `start` on, with so many bytes of data from `ram` on.
+// The verdict of a text of these words from `start` on, with these addresses as data.
 fn verdict_at(
     alloc: Global,
     rt: &impl Abort,
     start: u16,
-    ram: u16,
-    size: u16,
+    data: Range<u16>,
     words: &[u16],
     arms: &[u8],
 ) -> Result<Verdict, Fail> {
     assert!(rt; !words.is_empty() && words.len() < MOST / 2);
     assert!(rt; 0x0200 <= start && start < 0x8000 && start % 2 == 0);
-    assert!(rt; 0x0200 <= ram && ram < 0x8000 && ram % 2 == 0);
-    assert!(rt; 0 < size && size < 0x1000 && size % 2 == 0);
+    assert!(rt; 0x0200 <= data.start && data.start < data.end && data.end < 0x8000);
+    assert!(rt; data.start % 2 == 0 && data.end % 2 == 0);
     let owner = Module {
         id: 1,
         vendor: 7,
@@ -58,8 +58,8 @@ fn verdict_at(
             end: start + 2 * words.len() as u16,
         },
         ram: Section {
-            start: ram,
-            end: ram + size,
+            start: data.start,
+            end: data.end,
         },
     };
     let bytes = bytes_of(words);
@@ -74,7 +74,7 @@ fn verdict_at(
 
 // The same with the text from 0x0300 and two bytes of data from 0x0400 on.
 fn verdict(alloc: Global, rt: &impl Abort, words: &[u16], arms: &[u8]) -> Result<Verdict, Fail> {
-    verdict_at(alloc, rt, 0x0300, 0x0400, 2, words, arms)
+    verdict_at(alloc, rt, 0x0300, 0x0400..0x0402, words, arms)
 }
 
 // A branch on the data's word at 0x0304, whose arms meet at 0x0318.

@@ -112,7 +112,7 @@ fn entry_verdict(alloc: Global, rt: &impl Abort, entry: &[u16]) -> Result<Verdic
     for word in [0x9305, 0x2400, 0x4500] {
         words.push(word)?;
     }
-    verdict_at(alloc, rt, 0x0800, 0x0a00, 0x24, words.as_slice(), b"")
+    verdict_at(alloc, rt, 0x0800, 0x0a00..0x0a24, words.as_slice(), b"")
 }
 
 #[test]

@@ -37,9 +37,10 @@ fn stub_of(alloc: Global, rt: &impl Abort, entries: u16) -> Result<Vec<u16>, Fai
 
 #[test]
 fn sizes(rt: HostRuntime) -> Result<(), Fail> {
+    let alloc = rt.alloc();
     for entries in [1, 2, 64] {
-        let words = stub_of(rt.alloc(), &rt, entries)?;
-        let found = verdict_at(rt.alloc(), &rt, 0x0800, 0x0a00, 0x24, words.as_slice(), b"")?;
+        let words = stub_of(alloc, &rt, entries)?;
+        let found = verdict_at(alloc, &rt, 0x0800, 0x0a00..0x0a24, words.as_slice(), b"")?;
         assert_eq!(rt; found, Verdict::Yes);
     }
     Ok(())
@@ -74,7 +75,7 @@ fn words(rt: HostRuntime) -> Result<(), Fail> {
         } else {
             no(0x0822, Reason::OutsideAccess, 0)
         };
-        let found = verdict_at(rt.alloc(), &rt, 0x0800, 0x0a00, 0x24, &words, b"")?;
+        let found = verdict_at(rt.alloc(), &rt, 0x0800, 0x0a00..0x0a24, &words, b"")?;
         assert_eq!(rt; found, expected);
     }
     Ok(())
@@ -86,7 +87,7 @@ fn back_into_the_stub(rt: HostRuntime) -> Result<(), Fail> {
     let mut words = STUB;
     words[39] = 0x4030;
     words[40] = 0x0820;
-    let found = verdict_at(rt.alloc(), &rt, 0x0800, 0x0a00, 0x24, &words, b"")?;
+    let found = verdict_at(rt.alloc(), &rt, 0x0800, 0x0a00..0x0a24, &words, b"")?;
     assert_eq!(rt; found, no(0x084e, Reason::UnknownTarget, 0));
     Ok(())
 }

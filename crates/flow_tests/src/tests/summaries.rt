@@ -32,7 +32,8 @@ fn met_again(rt: HostRuntime) -> Result<(), Fail> {
         let mut text = CALLS;
         text[13] = address;
         text[14] = word;
-        let found = verdict_at(rt.alloc(), &rt, 0x0300, 0x0400, 0x20, &text, b"0334 0344 6")?;
+        let data = 0x0400..0x0420;
+        let found = verdict_at(rt.alloc(), &rt, 0x0300, data, &text, b"0334 0344 6")?;
         assert_eq!(rt; found, expected);
     }
     Ok(())
@@ -74,7 +75,8 @@ fn met_at_once(rt: HostRuntime) -> Result<(), Fail> {
                 text[place] = 0x0420;
             }
         }
-        let found = verdict_at(rt.alloc(), &rt, 0x0300, 0x0400, 0x20, &text, b"0368 0378 6")?;
+        let data = 0x0400..0x0420;
+        let found = verdict_at(rt.alloc(), &rt, 0x0300, data, &text, b"0368 0378 6")?;
         assert_eq!(rt; found, expected);
     }
     Ok(())
@@ -88,23 +90,24 @@ const CLAIMED: [u16; 25] = [
     0x0300,
 ];
 
-// Where the data begin, how many bytes they have, the address that is read, and the verdict.
-fn rows_claimed() -> [(u16, u16, u16, Verdict); 4] {
+// Where the data begin, the address that is read, and the verdict.
+fn rows_claimed() -> [(u16, u16, Verdict); 4] {
     [
-        (0x0400, 0x20, 0x0300, Verdict::Yes),
-        (0x0300, 0x120, 0x0300, Verdict::Yes),
+        (0x0400, 0x0300, Verdict::Yes),
+        (0x0300, 0x0300, Verdict::Yes),
         // No address of the module.
-        (0x0400, 0x20, 0x0420, no(0x0308, Reason::Arm, 0x030e)),
-        (0x0300, 0x120, 0x0420, no(0x0308, Reason::Arm, 0x030e)),
+        (0x0400, 0x0420, no(0x0308, Reason::Arm, 0x030e)),
+        (0x0300, 0x0420, no(0x0308, Reason::Arm, 0x030e)),
     ]
 }
 
 #[test]
 fn claimed(rt: HostRuntime) -> Result<(), Fail> {
-    for (start, size, address, expected) in rows_claimed() {
+    for (start, address, expected) in rows_claimed() {
         let mut text = CLAIMED;
         text[24] = address;
-        let found = verdict_at(rt.alloc(), &rt, 0x0300, start, size, &text, b"0308 031c 7")?;
+        let data = start..0x0420;
+        let found = verdict_at(rt.alloc(), &rt, 0x0300, data, &text, b"0308 031c 7")?;
         assert_eq!(rt; found, expected);
     }
     Ok(())

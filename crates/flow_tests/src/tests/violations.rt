@@ -192,7 +192,7 @@ fn nine_calls(rt: HostRuntime) -> Result<(), Fail> {
         words[20] = *first;
         words[21] = *second;
         words[22] = *third;
-        let found = verdict_at(rt.alloc(), &rt, 0x0300, 0x0400, 0x40, &words, b"")?;
+        let found = verdict_at(rt.alloc(), &rt, 0x0300, 0x0400..0x0440, &words, b"")?;
         assert_eq!(rt; found, *expected);
     }
     Ok(())
