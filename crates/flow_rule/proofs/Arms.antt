@@ -1,7 +1,6 @@
 -- Both arms of a branch: two runs agree at the join, but for what the arms write.
-use Rattle.std.proofs.Common.{◌≡◌, ◌≢◌, ◌⊎◌, inl, inr, ℕ, suc, ◌+◌, ◌%◌, ◌<◌, ◌≤◌, List, [], ◌∷◌, ◌++◌, find, length, set, refl, sym, ap, ◌∙◌, subst, arith, Bool, true, false, cond, ◌==◌, ◌&&◌, not, Option, Some, None, get_or-set_same, get_or-set_other, length-set, ℤ}
-use Rattle.std.proofs.lemmas.Bool.{cases_lt, not-false}
-use Rattle.std.proofs.lemmas.List.{set_past, get_or_past}
+use Rattle.std.proofs.Common.{◌≡◌, ◌≢◌, inl, ℕ, suc, ◌+◌, ◌%◌, ◌<◌, ◌≤◌, List, [], ◌∷◌, ◌++◌, find, length, set, refl, sym, ap, ◌∙◌, subst, arith, Bool, true, false, cond, ◌==◌, ◌&&◌, not, Option, Some, None, get_or-set_same, get_or-set_other, length-set, ℤ}
+use Rattle.std.proofs.lemmas.Bool.{not-false, eqb-true}
 use Rattle.std.proofs.lemmas.Bool.Decides.{nat_tests}
 use Rattle.sm_words.specs.Words.{reg, put, kept, add16, nth}
 use Rattle.insn_decode.specs.Code.{is_always, distance}
@@ -24,7 +23,7 @@ use Rattle.flow_rule.specs.declared.Reason.TheVariants.{Arm as ArmInsn}
 use Rattle.flow_rule.specs.Iterations.{PointState, FlowStep}
 use Rattle.flow_rule.specs.Does.{does_val, past_val}
 use Rattle.flow_rule.specs.Violations.{violation_if}
-use Rattle.flow_rule.proofs.Meaning.{Agrees}
+use Rattle.flow_rule.proofs.Meaning.{Agrees, agrees_as, set_here}
 use Rattle.flow_rule.proofs.Cores.{AgreeCore, put_other_reg, mode}
 use Rattle.flow_rule.proofs.Plans.{none_left, none_right, none_if}
 use Rattle.arm_balance.specs.declared.Arm.{Arm}
@@ -58,14 +57,8 @@ module _ (s : Section) where
   one_clobbered : (v : List Val) (n k a b : ℕ) → (n ≡ 3 → (a ≡ 0) × (b ≡ 0)) → (n ≢ k → Agrees s (val v n) a b) → Agrees s (val (put_val v k Secret) n) a b
   one_clobbered v n k a b zero3 h = by (n == k) refl
     where
-      here : (k < length v) ⊎ (length v ≤ k) → n ≡ k → Agrees s (val (put_val v k Secret) n) a b
-      here (inl lt) e =
-          subst (λ u. Agrees s u a b) (sym (ap (λ i. val (put_val v k Secret) i) e ∙ get_or-set_same v k (kept_val k Secret) Secret lt ∙ ap (λ i. kept_val i Secret) (sym e))) (secret_kept n a b zero3)
-      here (inr ge) e =
-          subst (λ u. Agrees s u a b) (sym (ap (λ l. val l n) (set_past v k (kept_val k Secret) ge) ∙ ap (λ i. val v i) e ∙ get_or_past v k Secret ge)) tt
-
       by : (c : Bool) → (n == k) ≡ c → Agrees s (val (put_val v k Secret) n) a b
-      by true e = here (cases_lt k (length v)) (grind (arith, nat_tests))
+      by true e = subst (λ i. Agrees s (val (put_val v i Secret) n) a b) (eqb-true n k e) (set_here s v n (kept_val n Secret) a b (secret_kept n a b zero3))
       by false e = let ne : n ≢ k = grind (arith, nat_tests) in subst (λ u. Agrees s u a b) (sym (get_or-set_other v k n (kept_val k Secret) Secret ne)) (h ne)
 
   clobbered_core_at : (ns : List ℕ) (v : List Val) (n a b : ℕ) → (n ≡ 3 → (a ≡ 0) × (b ≡ 0)) → (NotIn n ns → Agrees s (val v n) a b) → Agrees s (val (clobbered_core ns v) n) a b
@@ -75,12 +68,8 @@ module _ (s : Section) where
   one_clobbered_word : (v : List Val) (n k a b : ℕ) → (n ≢ k → Agrees s (nth n v Secret) a b) → Agrees s (nth n (set v k Secret) Secret) a b
   one_clobbered_word v n k a b h = by (n == k) refl
     where
-      here : (k < length v) ⊎ (length v ≤ k) → n ≡ k → Agrees s (nth n (set v k Secret) Secret) a b
-      here (inl lt) e = subst (λ u. Agrees s u a b) (sym (ap (λ i. nth i (set v k Secret) Secret) e ∙ get_or-set_same v k Secret Secret lt)) tt
-      here (inr ge) e = subst (λ u. Agrees s u a b) (sym (ap (λ l. nth n l Secret) (set_past v k Secret ge) ∙ ap (λ i. nth i v Secret) e ∙ get_or_past v k Secret ge)) tt
-
       by : (c : Bool) → (n == k) ≡ c → Agrees s (nth n (set v k Secret) Secret) a b
-      by true e = here (cases_lt k (length v)) (grind (arith, nat_tests))
+      by true e = subst (λ i. Agrees s (nth n (set v i Secret) Secret) a b) (eqb-true n k e) (set_here s v n Secret a b tt)
       by false e = let ne : n ≢ k = grind (arith, nat_tests) in subst (λ u. Agrees s u a b) (sym (get_or-set_other v k n Secret Secret ne)) (h ne)
 
   clobbered_at : (ns : List ℕ) (v : List Val) (n a b : ℕ) → (NotIn n ns → Agrees s (nth n v Secret) a b) → Agrees s (nth n (set_each ns Secret v) Secret) a b
@@ -221,8 +210,8 @@ module _ (terms : Terms) (key : List ℕ) (m : Module) (text : List ℕ) (caller
             at = λ i. walk_clobbers_word m.text (walk_of true) clobbered_first i
                 (word p.data_left i) (word q.data_left i)
                 (λ free1. walk_clobbers_word m.text (walk_of false) x.state i (word p.data_left i) (word q.data_left i)
-                (λ free0. subst (λ a. Agrees m.text (nth i x.state.words Secret) a (word q.data_left i)) (sym (p.words i (at_turn (λ t. NotIn i (walk_words (walk_of t))) free0 free1 ta)))
-                (subst (λ b. Agrees m.text (nth i x.state.words Secret) (word da i) b) (sym (q.words i (at_turn (λ t. NotIn i (walk_words (walk_of t))) free0 free1 tb))) (at.words.at i))));
+                (λ free0. let kept_by = λ (t : Bool). at_turn (λ t. NotIn i (walk_words (walk_of t))) free0 free1 t in
+                agrees_as m.text _ _ _ _ _ _ refl (p.words i (kept_by ta)) (q.words i (kept_by tb)) (at.words.at i)));
           };
           in_text = inn;
         }
@@ -238,17 +227,14 @@ module _ (terms : Terms) (key : List ℕ) (m : Module) (text : List ℕ) (caller
         others n n0 true e free0 free1 = let k : n ≡ 2 = grind (arith, nat_tests) in subst (λ i. Agrees m.text (val x.state.core i) (reg p.core n) (reg q.core n)) (sym k) (is_flag (val x.state.core 2) secret (reg p.core n) (reg q.core n))
         others n n0 false e free0 free1 =
             let n2 : n ≢ 2 = grind (arith, nat_tests) in
-            subst (λ a. Agrees m.text (val x.state.core n) a (reg q.core n)) (sym (p.regs n n0 n2 (at_turn (λ t. NotIn n (walk_regs (walk_of t))) free0 free1 ta))) (subst (λ b. Agrees m.text (val x.state.core n) (reg ca n) b) (sym (q.regs n n0 n2 (at_turn (λ t. NotIn n (walk_regs (walk_of t))) free0 free1 tb))) (at.core.at n))
+            let kept_by = λ (t : Bool). at_turn (λ t. NotIn n (walk_regs (walk_of t))) free0 free1 t in
+            agrees_as m.text _ _ _ _ _ _ refl (p.regs n n0 n2 (kept_by ta)) (q.regs n n0 n2 (kept_by tb)) (at.core.at n)
 
         zeros : (n : ℕ) → n ≡ 3 → (reg p.core n ≡ 0) × (reg q.core n ≡ 0)
         zeros n e = (ap (λ i. reg p.core i) e ∙ p.fine.1.zero_a, ap (λ i. reg q.core i) e ∙ q.fine.1.zero_a)
 
-        at_zero : (0 < length clobbered) ⊎ (length clobbered ≤ 0) → Agrees m.text (val (set clobbered 0 (Known arm.join)) 0) (reg p.core 0) (reg q.core 0)
-        at_zero (inl lt) = subst (λ u. Agrees m.text u (reg p.core 0) (reg q.core 0)) (sym (get_or-set_same clobbered 0 (Known arm.join) Secret lt)) (p.here, q.here)
-        at_zero (inr ge) = subst (λ u. Agrees m.text u (reg p.core 0) (reg q.core 0)) (sym (ap (λ l. val l 0) (set_past clobbered 0 (Known arm.join) ge) ∙ get_or_past clobbered 0 Secret ge)) tt
-
         by : (n : ℕ) (t : Bool) → (n == 0) ≡ t → Agrees m.text (val (set clobbered 0 (Known arm.join)) n) (reg p.core n) (reg q.core n)
-        by n true e = let k : n ≡ 0 = grind (arith, nat_tests) in subst (λ i. Agrees m.text (val (set clobbered 0 (Known arm.join)) i) (reg p.core i) (reg q.core i)) (sym k) (at_zero (cases_lt 0 (length clobbered)))
+        by n true e = let k : n ≡ 0 = grind (arith, nat_tests) in subst (λ i. Agrees m.text (val (set clobbered 0 (Known arm.join)) i) (reg p.core i) (reg q.core i)) (sym k) (set_here m.text clobbered 0 (Known arm.join) _ _ (p.here, q.here))
         by n false e =
             let n0 : n ≢ 0 = grind (arith, nat_tests) in
             subst (λ u. Agrees m.text u (reg p.core n) (reg q.core n)) (sym (get_or-set_other clobbered 0 n (Known arm.join) Secret n0))

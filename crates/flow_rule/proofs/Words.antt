@@ -22,7 +22,7 @@ use Rattle.flow_rule.specs.declared.Reach.{Reach}
 use Rattle.flow_rule.specs.Does.{may_reach, word_no, half, read_at, read_val, write_at, write_val, writes_val, read_reaches, write_reaches}
 use Rattle.flow_rule.specs.Arms.{written_words}
 use Rattle.arm_balance.specs.Met.{text_byte}
-use Rattle.flow_rule.proofs.Meaning.{Agrees, over_one_agrees, blurred_same}
+use Rattle.flow_rule.proofs.Meaning.{Agrees, agrees_as, over_one_agrees, blurred_same}
 use Rattle.flow_rule.proofs.Effects.{AgreeList, narrow_agrees}
 use Rattle.flow_rule.proofs.Plans.{Fixed}
 
@@ -126,9 +126,6 @@ module _ (key : List ℕ) (m : Module) (text : List ℕ) (caller : ℕ) (shape :
           high_byte : (x y : ℕ) → x < 256 → y ≡ (x + 256 * y) / 256
           high_byte x y h = omega arith
 
-  both : (v : Val) (x y x' y' : ℕ) → x ≡ x' → y ≡ y' → Agrees m.text v x' y' → Agrees m.text v x y
-  both v x y x' y' p q h = subst (λ i. Agrees m.text v i y) (sym p) (subst (λ i. Agrees m.text v x' i) (sym q) h)
-
   in_ram : (a : ℕ) → holds m.ram a ≡ true → m.ram.start ≤ a
   in_ram a e = grind (arith, nat_tests)
 
@@ -142,7 +139,7 @@ module _ (key : List ℕ) (m : Module) (text : List ℕ) (caller : ℕ) (shape :
       by true f ev t = (word_text a x ev f, word_text b x ev f)
       by false f ev t =
           let low = in_ram x (or_second (holds m.text x) (holds m.ram x) t f) in
-          both _ _ _ _ _ (word_ram a x ev low f) (word_ram b x ev low f) (h.at (word_no m x))
+          agrees_as m.text _ _ _ _ _ _ refl (word_ram a x ev low f) (word_ram b x ev low f) (h.at (word_no m x))
   read_agrees v a b Byte x h e =
       by (holds m.text x) refl e
     where
@@ -150,7 +147,7 @@ module _ (key : List ℕ) (m : Module) (text : List ℕ) (caller : ℕ) (shape :
       by true f t = (byte_text a x f, byte_text b x f)
       by false f t =
           let low = in_ram x (or_second (holds m.text x) (holds m.ram x) t f) in
-          both _ _ _ _ _ (half_word a x h.is_a low f) (half_word b x h.is_b low f) (over_one_agrees m.text (half x) (nth (word_no m x) v Secret) _ _ (h.at (word_no m x)))
+          agrees_as m.text _ _ _ _ _ _ refl (half_word a x h.is_a low f) (half_word b x h.is_b low f) (over_one_agrees m.text (half x) (nth (word_no m x) v Secret) _ _ (h.at (word_no m x)))
 
   read_one : (v : List Val) (a b : List ℕ) (r : Reach) (x : Access) → AgreeData m v a b → r.addr ≡ Known x.addr → x.width ≡ r.width → may_reach m Read r.width x.addr ≡ true →
       Agrees m.text (read_val m text v r) (lone_read j a x) (lone_read j b x)
