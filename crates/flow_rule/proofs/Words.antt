@@ -1,8 +1,7 @@
 -- The data of two runs that agree under values of their words, and reads and writes.
 use Rattle.std.proofs.Common.{◌≡◌, ◌≢◌, ◌⊎◌, inl, inr, ℕ, ◌+◌, ◌-◌, ◌*◌, ◌/◌, ◌%◌, ◌<◌, ◌≤◌, List, [], ◌∷◌, length, get_or, set, map, refl, sym, ap, ◌∙◌, subst, arith, Bool, true, false, cond, ◌==◌, ◌||◌, not, length-set, get_or-set_same, get_or-set_other}
-use Rattle.std.proofs.lemmas.Bool.{and_parts, cases_lt}
+use Rattle.std.proofs.lemmas.Bool.{and_parts}
 use Rattle.std.proofs.lemmas.Bool.Decides.{nat_tests}
-use Rattle.std.proofs.lemmas.List.{set_past, get_or_past}
 use Rattle.sm_words.specs.Words.{nth, word_at}
 use Rattle.sm_words.specs.Sums.{low}
 use Rattle.sm_words.specs.declared.width.Width.{Width}
@@ -22,7 +21,8 @@ use Rattle.flow_rule.specs.declared.Reach.{Reach}
 use Rattle.flow_rule.specs.Does.{may_reach, word_no, half, read_at, read_val, write_at, write_val, writes_val, read_reaches, write_reaches}
 use Rattle.flow_rule.specs.Arms.{written_words}
 use Rattle.arm_balance.specs.Met.{text_byte}
-use Rattle.flow_rule.proofs.Meaning.{Agrees, agrees_as, over_one_agrees, blurred_same}
+use Rattle.flow_rule.proofs.Cores.{set_with}
+use Rattle.flow_rule.proofs.Meaning.{Agrees, agrees_as, set_here, over_one_agrees, blurred_same}
 use Rattle.flow_rule.proofs.Effects.{AgreeList, narrow_agrees}
 use Rattle.flow_rule.proofs.Plans.{Fixed}
 
@@ -178,28 +178,15 @@ module _ (m : Module) (shape : Shape m) where
       Agrees m.text w (word c k) (word d k) → ((i : ℕ) → i ≢ k → (word c i ≡ word a i) × (word d i ≡ word b i)) → AgreeData m (set v k w) c d
   set_word v a b c d k w h ic id here there = record { is_a = ic; is_b = id; at = λ i. by i (i == k) refl }
     where
-      at_k : (k < length v) ⊎ (length v ≤ k) → Agrees m.text (nth k (set v k w) Secret) (word c k) (word d k)
-      at_k (inl lt) = subst (λ u. Agrees m.text u (word c k) (word d k)) (sym (get_or-set_same v k w Secret lt)) here
-      at_k (inr ge) = subst (λ u. Agrees m.text u (word c k) (word d k)) (sym (ap (λ l. nth k l Secret) (set_past v k w ge) ∙ get_or_past v k Secret ge)) tt
-
       by : (i : ℕ) (t : Bool) → (i == k) ≡ t → Agrees m.text (nth i (set v k w) Secret) (word c i) (word d i)
-      by i true e = let f : i ≡ k = grind (arith, nat_tests) in subst (λ i. Agrees m.text (nth i (set v k w) Secret) (word c i) (word d i)) (sym f) (at_k (cases_lt k (length v)))
+      by i true e = let f : i ≡ k = grind (arith, nat_tests) in subst (λ i. Agrees m.text (nth i (set v k w) Secret) (word c i) (word d i)) (sym f) (set_here m.text v k w (word c k) (word d k) here)
       by i false e =
           let ne : i ≢ k = grind (arith, nat_tests) in
           let t = there i ne in
-          subst (λ u. Agrees m.text u (word c i) (word d i)) (sym (get_or-set_other v k i w Secret ne))
-          (subst (λ x. Agrees m.text (nth i v Secret) x (word d i)) (sym t.0) (subst (λ y. Agrees m.text (nth i v Secret) (word a i) y) (sym t.1) (h.at i)))
+          agrees_as m.text _ _ _ _ _ _ (get_or-set_other v k i w Secret ne) t.0 t.1 (h.at i)
 
   set_bytes : (d : List ℕ) (n x : ℕ) → x < 256 → IsData m d → IsData m (set d n x)
-  set_bytes d n x small h = record { long = length-set d n x ∙ h.long; bytes = λ i. by i (i == n) refl }
-    where
-      at_n : (n < length d) ⊎ (length d ≤ n) → get_or (set d n x) n 0 < 256
-      at_n (inl lt) = subst (λ y. y < 256) (sym (get_or-set_same d n x 0 lt)) small
-      at_n (inr ge) = subst (λ l. get_or l n 0 < 256) (sym (set_past d n x ge)) (h.bytes n)
-
-      by : (i : ℕ) (t : Bool) → (i == n) ≡ t → get_or (set d n x) i 0 < 256
-      by i true e = let f : i ≡ n = grind (arith, nat_tests) in subst (λ i. get_or (set d n x) i 0 < 256) (sym f) (at_n (cases_lt n (length d)))
-      by i false e = let ne : i ≢ n = grind (arith, nat_tests) in subst (λ y. y < 256) (sym (get_or-set_other d n i x 0 ne)) (h.bytes i)
+  set_bytes d n x small h = record { long = length-set d n x ∙ h.long; bytes = λ i. set_with (λ y. y < 256) d n i x (λ e. small) (h.bytes i) }
 
   -- a word or a byte of one run
   put_word : List ℕ → ℕ → ℕ → List ℕ
@@ -281,8 +268,8 @@ module _ (m : Module) (shape : Shape m) where
       let fits : 2 * k + 1 < size_of m.ram = omega arith in
       let c : AgreeData m (set v k (narrow Word w)) (put_word a k p) (put_word b k q) =
       set_word v a b (put_word a k p) (put_word b k q) k (narrow Word w) h (put_word_data a k p h.is_a) (put_word_data b k q h.is_b)
-      (subst (λ y. Agrees m.text (narrow Word w) y (word (put_word b k q) k)) (sym (put_word_same a k p (subst (λ l. 2 * k + 1 < l) (sym h.is_a.long) fits)))
-      (subst (λ y. Agrees m.text (narrow Word w) (low Word p) y) (sym (put_word_same b k q (subst (λ l. 2 * k + 1 < l) (sym h.is_b.long) fits))) (narrow_agrees m.text Word w p q g)))
+      (agrees_as m.text _ _ _ _ _ _ refl (put_word_same a k p (subst (λ l. 2 * k + 1 < l) (sym h.is_a.long) fits))
+      (put_word_same b k q (subst (λ l. 2 * k + 1 < l) (sym h.is_b.long) fits)) (narrow_agrees m.text Word w p q g))
       (λ i ne. (put_word_other a k p i ne, put_word_other b k q i ne)) in
       subst (λ y. AgreeData m (set v k (narrow Word w)) y (lone_write m Word b x q)) (is_put x a p k i i') (subst (λ y. AgreeData m (set v k (narrow Word w)) (put_word a k p) y) (is_put x b q k i i') c)
 
