@@ -1,6 +1,6 @@
 -- Both arms of a branch: two runs agree at the join, but for what the arms write.
-use Rattle.std.proofs.Common.{◌≡◌, ◌≢◌, inl, ℕ, suc, ◌+◌, ◌%◌, ◌<◌, ◌≤◌, List, [], ◌∷◌, ◌++◌, find, length, set, refl, sym, ap, ◌∙◌, subst, arith, Bool, true, false, cond, ◌==◌, ◌&&◌, not, Option, Some, None, get_or-set_same, get_or-set_other, length-set, ℤ}
-use Rattle.std.proofs.lemmas.Bool.{not-false, eqb-true}
+use Rattle.std.proofs.Common.{◌≡◌, ◌≢◌, inl, ℕ, suc, ◌+◌, ◌%◌, ◌<◌, ◌≤◌, List, [], ◌∷◌, ◌++◌, find, length, set, refl, sym, ap, ◌∙◌, subst, arith, Bool, true, false, cond, ◌==◌, ◌&&◌, not, Option, Some, None, get_or-set_same, length-set, ℤ}
+use Rattle.std.proofs.lemmas.Bool.{not-false}
 use Rattle.std.proofs.lemmas.Bool.Decides.{nat_tests}
 use Rattle.sm_words.specs.Words.{reg, put, kept, add16, nth}
 use Rattle.insn_decode.specs.Code.{is_always, distance}
@@ -23,7 +23,7 @@ use Rattle.flow_rule.specs.declared.Reason.TheVariants.{Arm as ArmInsn}
 use Rattle.flow_rule.specs.Iterations.{PointState, FlowStep}
 use Rattle.flow_rule.specs.Does.{does_val, past_val}
 use Rattle.flow_rule.specs.Violations.{violation_if}
-use Rattle.flow_rule.proofs.Meaning.{Agrees, agrees_as, set_here}
+use Rattle.flow_rule.proofs.Meaning.{Agrees, set_holds, agrees_as}
 use Rattle.flow_rule.proofs.Cores.{AgreeCore, put_other_reg, mode}
 use Rattle.flow_rule.proofs.Plans.{none_left, none_right, none_if}
 use Rattle.arm_balance.specs.declared.Arm.{Arm}
@@ -55,27 +55,16 @@ module _ (s : Section) where
       by false false e = tt
 
   one_clobbered : (v : List Val) (n k a b : ℕ) → (n ≡ 3 → (a ≡ 0) × (b ≡ 0)) → (n ≢ k → Agrees s (val v n) a b) → Agrees s (val (put_val v k Secret) n) a b
-  one_clobbered v n k a b zero3 h = by (n == k) refl
-    where
-      by : (c : Bool) → (n == k) ≡ c → Agrees s (val (put_val v k Secret) n) a b
-      by true e = subst (λ i. Agrees s (val (put_val v i Secret) n) a b) (eqb-true n k e) (set_here s v n (kept_val n Secret) a b (secret_kept n a b zero3))
-      by false e = let ne : n ≢ k = grind (arith, nat_tests) in subst (λ u. Agrees s u a b) (sym (get_or-set_other v k n (kept_val k Secret) Secret ne)) (h ne)
+  one_clobbered v n k a b zero3 h = set_holds (λ u. Agrees s u a b) v Secret k n (kept_val k Secret) tt (λ e. subst (λ i. Agrees s (kept_val i Secret) a b) e (secret_kept n a b zero3)) h
 
   clobbered_core_at : (ns : List ℕ) (v : List Val) (n a b : ℕ) → (n ≡ 3 → (a ≡ 0) × (b ≡ 0)) → (NotIn n ns → Agrees s (val v n) a b) → Agrees s (val (clobbered_core ns v) n) a b
   clobbered_core_at [] v n a b zero3 h = h tt
   clobbered_core_at (k ∷ ns) v n a b zero3 h = clobbered_core_at ns (put_val v k Secret) n a b zero3 (λ no. one_clobbered v n k a b zero3 (λ ne. h (ne, no)))
 
-  one_clobbered_word : (v : List Val) (n k a b : ℕ) → (n ≢ k → Agrees s (nth n v Secret) a b) → Agrees s (nth n (set v k Secret) Secret) a b
-  one_clobbered_word v n k a b h = by (n == k) refl
-    where
-      by : (c : Bool) → (n == k) ≡ c → Agrees s (nth n (set v k Secret) Secret) a b
-      by true e = subst (λ i. Agrees s (nth n (set v i Secret) Secret) a b) (eqb-true n k e) (set_here s v n Secret a b tt)
-      by false e = let ne : n ≢ k = grind (arith, nat_tests) in subst (λ u. Agrees s u a b) (sym (get_or-set_other v k n Secret Secret ne)) (h ne)
-
   clobbered_at : (ns : List ℕ) (v : List Val) (n a b : ℕ) → (NotIn n ns → Agrees s (nth n v Secret) a b) → Agrees s (nth n (set_each ns Secret v) Secret) a b
   clobbered_at [] v n a b h = h tt
   clobbered_at (k ∷ ns) v n a b h =
-      clobbered_at ns (set v k Secret) n a b (λ no. one_clobbered_word v n k a b (λ ne. h (ne, no)))
+      clobbered_at ns (set v k Secret) n a b (λ no. set_holds (λ u. Agrees s u a b) v Secret k n Secret tt (λ e. tt) (λ ne. h (ne, no)))
 
   walk_clobbers : (w : Walk) (l : AbstractState) (n a b : ℕ) → (n ≡ 3 → (a ≡ 0) × (b ≡ 0)) →
       (NotIn n (walk_regs w) → Agrees s (val l.core n) a b) → Agrees s (val (clobbered_by w l).core n) a b
@@ -196,7 +185,9 @@ module _ (terms : Terms) (key : List ℕ) (m : Module) (text : List ℕ) (caller
                 subst (λ i. i ≤ 16) (sym same) at.core.short;
             long_a = p.fine.1.long_a;
             long_b = q.fine.1.long_a;
-            at = λ n. by n (n == 0) refl;
+            at = λ n. set_holds (λ u. Agrees m.text u (reg p.core n) (reg q.core n)) clobbered_both.core Secret 0 n (Known arm.join) tt (λ e. (ap (reg p.core) e ∙ p.here, ap (reg q.core) e ∙ q.here))
+                (λ n0. walk_clobbers m.text (walk_of true) clobbered_first n (reg p.core n) (reg q.core n) (zeros n)
+                (λ free1. walk_clobbers m.text (walk_of false) x.state n (reg p.core n) (reg q.core n) (zeros n) (λ free0. others n n0 (n == 2) refl free0 free1)));
             mode_same = p.sr ∙ at.core.mode_same ∙ sym q.sr;
             nine_a = p.fine.1.nine_a;
             nine_b = q.fine.1.nine_a;
@@ -216,9 +207,6 @@ module _ (terms : Terms) (key : List ℕ) (m : Module) (text : List ℕ) (caller
           in_text = inn;
         }
       where
-        clobbered : List Val
-        clobbered = clobbered_both.core
-
         is_flag : (v : Val) → is_secret v ≡ true → (a b : ℕ) → Agrees m.text v a b
         is_flag Secret e a b = tt
         is_flag _ e a b = absurd cc
@@ -232,14 +220,6 @@ module _ (terms : Terms) (key : List ℕ) (m : Module) (text : List ℕ) (caller
 
         zeros : (n : ℕ) → n ≡ 3 → (reg p.core n ≡ 0) × (reg q.core n ≡ 0)
         zeros n e = (ap (λ i. reg p.core i) e ∙ p.fine.1.zero_a, ap (λ i. reg q.core i) e ∙ q.fine.1.zero_a)
-
-        by : (n : ℕ) (t : Bool) → (n == 0) ≡ t → Agrees m.text (val (set clobbered 0 (Known arm.join)) n) (reg p.core n) (reg q.core n)
-        by n true e = let k : n ≡ 0 = grind (arith, nat_tests) in subst (λ i. Agrees m.text (val (set clobbered 0 (Known arm.join)) i) (reg p.core i) (reg q.core i)) (sym k) (set_here m.text clobbered 0 (Known arm.join) _ _ (p.here, q.here))
-        by n false e =
-            let n0 : n ≢ 0 = grind (arith, nat_tests) in
-            subst (λ u. Agrees m.text u (reg p.core n) (reg q.core n)) (sym (get_or-set_other clobbered 0 n (Known arm.join) Secret n0))
-            (walk_clobbers m.text (walk_of true) clobbered_first n (reg p.core n) (reg q.core n) (zeros n)
-            (λ free1. walk_clobbers m.text (walk_of false) x.state n (reg p.core n) (reg q.core n) (zeros n) (λ free0. others n n0 (n == 2) refl free0 free1)))
 
     arm_crossing : At x ca da cb db → (step_arm S m text (Jump cn off) target arm x).violations ≡ [] → Crossing terms m jj At (step_arm S m text (Jump cn off) target arm x).gives (at_rest ca da) (at_rest cb db)
     unfolding does_val

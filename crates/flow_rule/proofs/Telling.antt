@@ -1,6 +1,6 @@
 -- Cores that are alike but for the answers, and data that agree on the public words.
-use Rattle.std.proofs.Common.{◌≡◌, ◌≢◌, ◌⊎◌, inl, inr, ℕ, zero, suc, ◌+◌, ◌<◌, ◌≤◌, List, [], ◌∷◌, length, map, set, refl, sym, ap, ◌∙◌, subst, arith, Bool, true, false, cond, ◌==◌, ◌||◌, length-set, get_or-set_other}
-use Rattle.std.proofs.lemmas.Bool.{cases_lt}
+use Rattle.std.proofs.Common.{◌≡◌, ◌≢◌, ◌⊎◌, inl, inr, ℕ, zero, suc, ◌+◌, ◌<◌, ◌≤◌, List, [], ◌∷◌, length, map, set, refl, sym, ap, ◌∙◌, arith, Bool, true, false, cond, ◌==◌, ◌||◌, length-set, get_or-set_other}
+use Rattle.std.proofs.lemmas.Bool.{cases_lt, eqb-true}
 use Rattle.std.proofs.lemmas.Bool.Decides.{nat_tests}
 use Rattle.std.proofs.lemmas.Grind.{same_number_lists}
 use Rattle.sm_words.specs.Words.{reg, nth}
@@ -14,7 +14,7 @@ use Rattle.flow_rule.specs.declared.Reason.TheVariants.{SecretAtExit, DataAtExit
 use Rattle.flow_rule.specs.Does.{word_no}
 use Rattle.flow_rule.specs.Violations.{violation, violation_if, exit_violations, word_violations}
 use Rattle.flow_rule.specs.Laws.{AgreeOn}
-use Rattle.flow_rule.proofs.Meaning.{Agrees, same}
+use Rattle.flow_rule.proofs.Meaning.{Agrees, same, set_holds}
 use Rattle.flow_rule.proofs.Cores.{AgreeCore}
 use Rattle.flow_rule.proofs.Plans.{none_left, none_right, none_if}
 use Rattle.flow_rule.proofs.Words.{word, AgreeData}
@@ -24,17 +24,12 @@ abbrev pub on_list : List ℕ → ℕ → Bool
 on_list [] k = false
 on_list (r ∷ rs) k = (k == r) || on_list rs k
 
-set_zero : (c : List ℕ) (r : ℕ) → reg (set c r 0) r ≡ 0
-set_zero [] r = refl
-set_zero (x ∷ c) zero = refl
-set_zero (x ∷ c) (suc r) = set_zero c r
-
 reg_blank : (rs c : List ℕ) (k : ℕ) → reg (blank rs c) k ≡ cond (on_list rs k) 0 (reg c k)
 reg_blank [] c k = refl
 reg_blank (r ∷ rs) c k = by (k == r) refl (reg_blank rs c k)
   where
     by : (b : Bool) → (k == r) ≡ b → reg (blank rs c) k ≡ cond (on_list rs k) 0 (reg c k) → reg (set (blank rs c) r 0) k ≡ cond (b || on_list rs k) 0 (reg c k)
-    by true e h = let f : k ≡ r = grind (arith, nat_tests) in subst (λ i. reg (set (blank rs c) i 0) k ≡ 0) f (set_zero (blank rs c) k)
+    by true e h = set_holds (λ y. y ≡ 0) (blank rs c) 0 r k 0 refl (λ same. refl) (λ ne. absurd (ne (eqb-true k r e)))
     by false e h = let ne : k ≢ r = grind (arith, nat_tests) in get_or-set_other (blank rs c) r k 0 0 ne ∙ h
 
 long_blank : (rs c : List ℕ) → length (blank rs c) ≡ length c
@@ -92,17 +87,10 @@ agrees_on m (a ∷ addrs) pc words da db h e (suc i) d lt =
     let here = violation_if (is_secret (nth (word_no m a) words Secret)) pc DataAtExit a in
     agrees_on m addrs pc words da db h (none_right here (word_violations m pc words addrs) e) i d (omega arith)
 
-one_open : (s : Section) (v : List Val) (k n a b : ℕ) → (n ≡ k → a ≡ b) → Agrees s (nth n v Secret) a b → Agrees s (nth n (set v k Public) Secret) a b
-one_open s [] k n a b e h = h
-one_open s (x ∷ v) zero zero a b e h = e refl
-one_open s (x ∷ v) zero (suc n) a b e h = h
-one_open s (x ∷ v) (suc k) zero a b e h = h
-one_open s (x ∷ v) (suc k) (suc n) a b e h = one_open s v k n a b (λ f. e (ap suc f)) h
-
 pub opened_at : (m : Module) (addrs : List ℕ) (v : List Val) (da db : List ℕ) → AgreeOn m addrs da db → ((i : ℕ) → Agrees m.text (nth i v Secret) (word da i) (word db i)) →
     (i : ℕ) → Agrees m.text (nth i (set_each (map (word_no m) addrs) Public v) Secret) (word da i) (word db i)
 opened_at m [] v da db agree h = h
 opened_at m (a ∷ addrs) v da db agree h =
     let here : word da (word_no m a) ≡ word db (word_no m a) = agree zero a (omega arith) in
     opened_at m addrs (set v (word_no m a) Public) da db (λ i d lt. agree (suc i) d (omega arith))
-    (λ i. one_open m.text v (word_no m a) i (word da i) (word db i) (λ f. ap (word da) f ∙ here ∙ ap (word db) (sym f)) (h i))
+    (λ i. set_holds (λ u. Agrees m.text u (word da i) (word db i)) v Secret (word_no m a) i Public tt (λ f. ap (word da) f ∙ here ∙ ap (word db) (sym f)) (λ ne. h i))

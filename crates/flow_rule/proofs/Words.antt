@@ -21,8 +21,7 @@ use Rattle.flow_rule.specs.declared.Reach.{Reach}
 use Rattle.flow_rule.specs.Does.{may_reach, word_no, half, read_at, read_val, write_at, write_val, writes_val, read_reaches, write_reaches}
 use Rattle.flow_rule.specs.Arms.{written_words}
 use Rattle.arm_balance.specs.Met.{text_byte}
-use Rattle.flow_rule.proofs.Cores.{set_with}
-use Rattle.flow_rule.proofs.Meaning.{Agrees, agrees_as, set_here, over_one_agrees, blurred_same}
+use Rattle.flow_rule.proofs.Meaning.{Agrees, set_holds, agrees_as, over_one_agrees, blurred_same}
 use Rattle.flow_rule.proofs.Effects.{AgreeList, narrow_agrees}
 use Rattle.flow_rule.proofs.Plans.{Fixed}
 
@@ -176,17 +175,16 @@ module _ (m : Module) (shape : Shape m) where
   -- one word becomes another in both
   set_word : (v : List Val) (a b c d : List ℕ) (k : ℕ) (w : Val) → AgreeData m v a b → IsData m c → IsData m d →
       Agrees m.text w (word c k) (word d k) → ((i : ℕ) → i ≢ k → (word c i ≡ word a i) × (word d i ≡ word b i)) → AgreeData m (set v k w) c d
-  set_word v a b c d k w h ic id here there = record { is_a = ic; is_b = id; at = λ i. by i (i == k) refl }
-    where
-      by : (i : ℕ) (t : Bool) → (i == k) ≡ t → Agrees m.text (nth i (set v k w) Secret) (word c i) (word d i)
-      by i true e = let f : i ≡ k = grind (arith, nat_tests) in subst (λ i. Agrees m.text (nth i (set v k w) Secret) (word c i) (word d i)) (sym f) (set_here m.text v k w (word c k) (word d k) here)
-      by i false e =
-          let ne : i ≢ k = grind (arith, nat_tests) in
-          let t = there i ne in
-          agrees_as m.text _ _ _ _ _ _ (get_or-set_other v k i w Secret ne) t.0 t.1 (h.at i)
+  set_word v a b c d k w h ic id here there =
+      record {
+        is_a = ic;
+        is_b = id;
+        at = λ i. set_holds (λ u. Agrees m.text u (word c i) (word d i)) v Secret k i w tt (λ e. subst (λ i. Agrees m.text w (word c i) (word d i)) (sym e) here)
+            (λ ne. let t = there i ne in agrees_as m.text _ _ _ _ _ _ refl t.0 t.1 (h.at i));
+      }
 
   set_bytes : (d : List ℕ) (n x : ℕ) → x < 256 → IsData m d → IsData m (set d n x)
-  set_bytes d n x small h = record { long = length-set d n x ∙ h.long; bytes = λ i. set_with (λ y. y < 256) d n i x (λ e. small) (h.bytes i) }
+  set_bytes d n x small h = record { long = length-set d n x ∙ h.long; bytes = λ i. set_holds (λ y. y < 256) d 0 n i x (omega arith) (λ e. small) (λ ne. h.bytes i) }
 
   -- a word or a byte of one run
   put_word : List ℕ → ℕ → ℕ → List ℕ
