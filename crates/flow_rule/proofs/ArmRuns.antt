@@ -32,14 +32,14 @@ use Rattle.flow_rule.specs.Violations.{violation_if}
 use Rattle.flow_rule.specs.Going.{goes, both, also}
 use Rattle.flow_rule.specs.Steps.{step_plain, step_jump, step_insn, step_of}
 use Rattle.flow_rule.proofs.Meaning.{Agrees}
-use Rattle.flow_rule.proofs.Cores.{AgreeCore, put_other_reg, mode, confined_kept}
+use Rattle.flow_rule.proofs.Cores.{AgreeCore, put_other_reg, mode, confined_mode, confined_kept}
 use Rattle.flow_rule.specs.Arms.{stepped_regs, written_reg, written_regs, Walk, Meets, Stops, walked, walk_on, walk}
 use Rattle.arm_balance.specs.Met.{met}
 use Rattle.arm_balance.specs.Balance.{arm_next}
 use Rattle.flow_rule.proofs.Walks.{met_cycles, met_regs, met_words, MeetsJoin, time_to, walk_regs, walk_words, with_met, is_met, met_rest, if_always}
 use Rattle.flow_rule.proofs.Words.{NotIn, word, Shape, IsData, AgreeData}
 use Rattle.flow_rule.proofs.Runs.{at_rest, Passes}
-use Rattle.flow_rule.proofs.Instruction.{always_jumps, AgreeAt, Single, Here, Gone, after, does_it, jump_so, Parts, plain_parts, plain_kept, two_alike, one_alike, way_single, way_val, fetched}
+use Rattle.flow_rule.proofs.Instruction.{always_jumps, AgreeAt, even_at, Single, Here, Gone, after, does_it, jump_so, Parts, plain_parts, two_alike, one_alike, way_single, way_val, fetched}
 use Rattle.flow_rule.proofs.Decoding.{met_regular, two_cycles_some}
 use Rattle.flow_rule.proofs.Open.{next_core, conf_reg}
 
@@ -93,6 +93,28 @@ pub passes_on : (j : Job) (k i : ℕ) (l l' l2 : Lone) → Passes j k l l' → P
 passes_on j zero i l l' l2 p q = let e : i ≡ zero + i = omega arith in subst (λ n. Passes j n l l2) e (subst (λ x. Passes j i x l2) (sym p) q)
 passes_on j (suc k) i l l' l2 p q = let e : suc (k + i) ≡ suc k + i = omega arith in subst (λ n. Passes j n l l2) e (p.0, passes_on j k i (lone_step j l) l' l2 p.1 q)
 
+-- where two runs agree, each agrees with itself
+agree_each : (s : Section) (v : Val) (a b : ℕ) → Agrees s v a b → Agrees s v a a × Agrees s v b b
+agree_each s (Known v) a b h = ((h.0, h.0), (h.1, h.1))
+agree_each s Away a b h = ((refl, h.1, h.2), (refl, subst (λ i. i < 65536) h.0 h.1, ap (λ i. holds s i) (sym h.0) ∙ h.2))
+agree_each s Public a b h = (refl, refl)
+agree_each s Secret a b h = (tt, tt)
+
+core_each : (s : Section) (v : List Val) (a b : List ℕ) → reg b 0 % 2 ≡ 0 → AgreeCore s v a b → AgreeCore s v a a × AgreeCore s v b b
+core_each s v a b ev h =
+    let each = λ (n : ℕ). agree_each s (val v n) (reg a n) (reg b n) (h.at n) in (
+      record { short = h.short; long_a = h.long_a; long_b = h.long_a; at = λ n. (each n).0; mode_same = refl; nine_a = h.nine_a; nine_b = h.nine_a; even_pc = h.even_pc; zero_a = h.zero_a; zero_b = h.zero_a },
+      record { short = h.short; long_a = h.long_b; long_b = h.long_b; at = λ n. (each n).1; mode_same = refl; nine_a = h.nine_b; nine_b = h.nine_b; even_pc = ev; zero_a = h.zero_b; zero_b = h.zero_b },
+    )
+
+pub at_each : (m : Module) (x : PointState) (ca da cb db : List ℕ) → AgreeAt m x ca da cb db → AgreeAt m x ca da ca da × AgreeAt m x cb db cb db
+at_each m x ca da cb db h =
+    let core = core_each m.text x.state.core ca cb (ap (λ i. i % 2) h.pc_b ∙ even_at m x ca da cb db h) h.core in
+    let each = λ (i : ℕ). agree_each m.text (nth i x.state.words Secret) (word da i) (word db i) (h.words.at i) in (
+      record { pc_a = h.pc_a; pc_b = h.pc_a; core = core.0; words = record { is_a = h.words.is_a; is_b = h.words.is_a; at = λ i. (each i).0 }; in_text = h.in_text },
+      record { pc_a = h.pc_b; pc_b = h.pc_b; core = core.1; words = record { is_a = h.words.is_b; is_b = h.words.is_b; at = λ i. (each i).1 }; in_text = h.in_text },
+    )
+
 module _ (terms : Terms) (key : List ℕ) (m : Module) (text : List ℕ) (caller : ℕ) (shape : Shape m) where
   abbrev j : Job
   j = job_of key m text caller
@@ -107,60 +129,24 @@ module _ (terms : Terms) (key : List ℕ) (m : Module) (text : List ℕ) (caller
     words : (i : ℕ) → NotIn i ws → word data_left i ≡ word d i
     sr : mode (reg core 2) ≡ mode (reg c 2)
 
-  agree_self : (s : Section) (v : Val) (a b : ℕ) → Agrees s v a b → Agrees s v a a
-  agree_self s (Known v) a b h = (h.0, h.0)
-  agree_self s Away a b h = (refl, h.1, h.2)
-  agree_self s Public a b h = refl
-  agree_self s Secret a b h = tt
-
-  agree_other : (s : Section) (v : Val) (a b : ℕ) → Agrees s v a b → Agrees s v b b
-  agree_other s (Known v) a b h = (h.1, h.1)
-  agree_other s Away a b h = (refl, subst (λ i. i < 65536) h.0 h.1, ap (λ i. holds s i) (sym h.0) ∙ h.2)
-  agree_other s Public a b h = refl
-  agree_other s Secret a b h = tt
-
-  core_self : (v : List Val) (a b : List ℕ) → AgreeCore m.text v a b → AgreeCore m.text v a a
-  core_self v a b h =
-      record { short = h.short; long_a = h.long_a; long_b = h.long_a; at = λ n. agree_self m.text (val v n) (reg a n) (reg b n) (h.at n); mode_same = refl; nine_a = h.nine_a; nine_b = h.nine_a; even_pc = h.even_pc; zero_a = h.zero_a; zero_b = h.zero_a }
-
-  core_other : (v : List Val) (a b : List ℕ) → reg b 0 % 2 ≡ 0 → AgreeCore m.text v a b → AgreeCore m.text v b b
-  core_other v a b ev h =
-      record { short = h.short; long_a = h.long_b; long_b = h.long_b; at = λ n. agree_other m.text (val v n) (reg a n) (reg b n) (h.at n); mode_same = refl; nine_a = h.nine_b; nine_b = h.nine_b; even_pc = ev; zero_a = h.zero_b; zero_b = h.zero_b }
-
-  data_self : (v : List Val) (a b : List ℕ) → AgreeData m v a b → AgreeData m v a a
-  data_self v a b h = record { is_a = h.is_a; is_b = h.is_a; at = λ i. agree_self m.text (nth i v Secret) (word a i) (word b i) (h.at i) }
-
-  data_other : (v : List Val) (a b : List ℕ) → AgreeData m v a b → AgreeData m v b b
-  data_other v a b h = record { is_a = h.is_b; is_b = h.is_b; at = λ i. agree_other m.text (nth i v Secret) (word a i) (word b i) (h.at i) }
-
-  pub at_self : (x : PointState) (ca da cb db : List ℕ) → AgreeAt m x ca da cb db → AgreeAt m x ca da ca da
-  at_self x ca da cb db h = record { pc_a = h.pc_a; pc_b = h.pc_a; core = core_self x.state.core ca cb h.core; words = data_self x.state.words da db h.words; in_text = h.in_text }
-
-  pub at_other : (x : PointState) (ca da cb db : List ℕ) → AgreeAt m x ca da cb db → AgreeAt m x cb db cb db
-  at_other x ca da cb db h =
-      record { pc_a = h.pc_b; pc_b = h.pc_b; core = core_other x.state.core ca cb (ap (λ i. i % 2) (h.pc_b ∙ sym h.pc_a) ∙ h.core.even_pc) h.core; words = data_other x.state.words da db h.words; in_text = h.in_text }
-
   single_self : (gives : List PointState) (ca da cb db : List ℕ) → Single terms m gives ca da cb db → Single terms m gives ca da ca da
-  single_self gives ca da cb db (Here y one at) = Here y one (at_self y ca da cb db at)
+  single_self gives ca da cb db (Here y one at) = Here y one (at_each m y ca da cb db at).0
   single_self gives ca da cb db (Gone nothing same out_a out_b p q agree) = Gone nothing refl out_a out_a p p (λ i d lt. refl)
 
   pub conf_mode : (c x : List ℕ) → length x ≡ 16 → mode (reg (confined true c x) 2) ≡ mode (reg c 2)
   unfolding confined
   conf_mode c x long =
-      ap mode (get_or-set_same x 2 (kept 2 (confined_sr (reg c 2) (reg x 2))) 0 (subst (λ i. 2 < i) (sym long) (omega arith)) ∙ confined_kept (reg c 2) (reg x 2)) ∙ modes (reg c 2) (reg x 2)
-    where
-      modes : (o n : ℕ) → mode (confined_sr o n) ≡ mode o
-      modes o n = omega arith
+      ap mode (get_or-set_same x 2 (kept 2 (confined_sr (reg c 2) (reg x 2))) 0 (subst (λ i. 2 < i) (sym long) (omega arith)) ∙ confined_kept (reg c 2) (reg x 2)) ∙ confined_mode (reg c 2) (reg x 2)
 
   conf_long : (c x : List ℕ) → length (confined true c x) ≡ length x
   unfolding confined
   conf_long c x = length-set x 2 _
 
   -- length and mode by the agreement that the instruction leaves
-  by_parts : (insn : Insn) (x : PointState) (gives : List PointState) (c d : List ℕ) (q : Parts terms key m text caller shape insn gives c d c d) → 0 < cycles_of insn → (rs ws : List ℕ) →
+  by_parts : (insn : Insn) (x : PointState) (gives : List PointState) (c d : List ℕ) (rs ws : List ℕ) (q : Parts terms key m text caller shape insn gives ws c d c d) → 0 < cycles_of insn →
       length (next_core insn c q.values_a) ≡ 16 →
-      ((k : ℕ) → k ≢ 0 → k ≢ 2 → NotIn k rs → reg (next_core insn c q.values_a) k ≡ reg c k) → ((i : ℕ) → NotIn i ws → word q.left_a i ≡ word d i) → Moved x gives c d (cycles_of insn) rs ws
-  by_parts insn x gives c d q some rs ws long regs words =
+      ((k : ℕ) → k ≢ 0 → k ≢ 2 → NotIn k rs → reg (next_core insn c q.values_a) k ≡ reg c k) → Moved x gives c d (cycles_of insn) rs ws
+  by_parts insn x gives c d rs ws q some long regs =
       let e : suc q.rest ≡ cycles_of insn = omega (arith, q.rest_is) in
       record {
         core = next_core insn c q.values_a;
@@ -168,7 +154,7 @@ module _ (terms : Terms) (key : List ℕ) (m : Module) (text : List ℕ) (caller
         pass = subst (λ n. Passes j n (at_rest c d) (at_rest (next_core insn c q.values_a) q.left_a)) e (does_it j c d (next_core insn c q.values_a) q.left_a insn q.rest false q.doing_a q.so_a);
         single = single_self gives _ _ _ _ q.landing;
         regs = regs;
-        words = words;
+        words = q.kept_a;
         sr = conf_mode c (does_freely insn c q.values_a).core (sym (conf_long c (does_freely insn c q.values_a).core) ∙ long);
       }
 
@@ -247,8 +233,8 @@ module _ (terms : Terms) (key : List ℕ) (m : Module) (text : List ℕ) (caller
       by (Some (Two op w s dst)) e on none =
           let h = two_alike terms key m text caller shape op w s dst (met_regular m text x.point.addr (Two op w s dst) e) in
           let q = plain_parts terms key m text caller shape (Two op w s dst) h x c d c d at e none in
-          by_parts (Two op w s dst) x (step_plain terms m text (Two op w s dst) x).gives c d q (two_cycles_some op w s dst) _ _ (two_long op w s dst c q.values_a at.core.long_a)
-          (λ k n0 n2 no. two_regs op w s dst c q.values_a k n0 n2 no) (λ i no. plain_kept terms key m text caller shape (Two op w s dst) h x c d c d at e none i no)
+          by_parts (Two op w s dst) x (step_plain terms m text (Two op w s dst) x).gives c d _ _ q (two_cycles_some op w s dst) (two_long op w s dst c q.values_a at.core.long_a)
+          (λ k n0 n2 no. two_regs op w s dst c q.values_a k n0 n2 no)
       by (Some (One op w a)) e on none = one op (not_call op on) e none
         where
           not_call : (op : OneOp) → arm_next join x.point.addr (Some (One op w a)) ≡ Some next → op ≢ Call
@@ -260,8 +246,8 @@ module _ (terms : Terms) (key : List ℕ) (m : Module) (text : List ℕ) (caller
               let r = met_regular m text x.point.addr (One op w a) e in
               let h = one_alike terms key m text caller shape op w a r.0 in
               let q = plain_parts terms key m text caller shape (One op w a) h x c d c d at e none in
-              by_parts (One op w a) x (step_plain terms m text (One op w a) x).gives c d q r.1 _ _ (one_long op w a c q.values_a nc at.core.long_a)
-              (λ k n0 n2 no. one_regs op w a c q.values_a k n0 n2 nc no) (λ i no. plain_kept terms key m text caller shape (One op w a) h x c d c d at e none i no)
+              by_parts (One op w a) x (step_plain terms m text (One op w a) x).gives c d _ _ q r.1 (one_long op w a c q.values_a nc at.core.long_a)
+              (λ k n0 n2 no. one_regs op w a c q.values_a k n0 n2 nc no)
       by (Some (Jump cn off)) e on none = jump_move cn off x c d at e (if_always (is_always cn) _ _ _ next on) none
       by (Some Reti) e on none = absurd cc
       by (Some (UnitOp n)) e on none = absurd cc

@@ -34,7 +34,7 @@ use Rattle.flow_rule.proofs.Words.{NotIn, word, Shape}
 use Rattle.flow_rule.proofs.Runs.{at_rest, Passes, Stays, Crossing, Standing}
 use Rattle.flow_rule.proofs.Instruction.{AgreeAt, even_at, after, does_it, jump_so, past_pc, way_agrees, way_val, fetched}
 use Rattle.flow_rule.proofs.Open.{conf_reg}
-use Rattle.flow_rule.proofs.ArmRuns.{past_kept, passes_on, at_self, at_other, conf_mode, Joins, Refines, walk_reach, walk_arm}
+use Rattle.flow_rule.proofs.ArmRuns.{past_kept, passes_on, at_each, conf_mode, Joins, Refines, walk_reach, walk_arm}
 
 -- ---- what the arms write is Secret
 clobbered_core_long : (ns : List ℕ) (v : List Val) → length (clobbered_core ns v) ≡ length v
@@ -234,8 +234,9 @@ module _ (terms : Terms) (key : List ℕ) (m : Module) (text : List ℕ) (caller
         let t1 = on_time pc0 arm.cycles 1 (walk_of true) (none_right (r0 ++ rs0) rs1 none) in
         let ta = jumps cn (reg ca 2) in
         let tb = jumps cn (reg cb 2) in
-        let p = arm_crossed ta ca da (at_self terms key m text caller shape x ca da cb db at) refl (at_turn (λ t. MeetsJoin (walk_of t)) t0.0 t1.0 ta) (at_turn (λ t. time_to (walk_of t) ≡ arm.cycles) t0.1 t1.1 ta) in
-        let q = arm_crossed tb cb db (at_other terms key m text caller shape x ca da cb db at) refl (at_turn (λ t. MeetsJoin (walk_of t)) t0.0 t1.0 tb) (at_turn (λ t. time_to (walk_of t) ≡ arm.cycles) t0.1 t1.1 tb) in
+        let each = at_each m x ca da cb db at in
+        let p = arm_crossed ta ca da each.0 refl (at_turn (λ t. MeetsJoin (walk_of t)) t0.0 t1.0 ta) (at_turn (λ t. time_to (walk_of t) ≡ arm.cycles) t0.1 t1.1 ta) in
+        let q = arm_crossed tb cb db each.1 refl (at_turn (λ t. MeetsJoin (walk_of t)) t0.0 t1.0 tb) (at_turn (λ t. time_to (walk_of t) ≡ arm.cycles) t0.1 t1.1 tb) in
         record {
           cycles = 2 + arm.cycles;
           some = omega arith;

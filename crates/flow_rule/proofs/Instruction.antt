@@ -245,8 +245,8 @@ module _ (terms : Terms) (key : List ℕ) (m : Module) (text : List ℕ) (caller
       of : List Access → Effect → Lone
       of ys e = record { core = e.core; data_bytes = lone_writes m d (writes_of ys) e.stored; rest = e.cycles - 1; closing = e.closing }
 
-  -- one instruction of both, in parts
-  pub record Parts (insn : Insn) (gives : List PointState) (ca da cb db : List ℕ) : Type 0 where
+  -- one instruction of both, in parts, which writes these words
+  pub record Parts (insn : Insn) (gives : List PointState) (ws ca da cb db : List ℕ) : Type 0 where
     pub values_a : List ℕ
     pub values_b : List ℕ
     pub left_a : List ℕ
@@ -257,10 +257,11 @@ module _ (terms : Terms) (key : List ℕ) (m : Module) (text : List ℕ) (caller
     pub doing_b : doing j (at_rest cb db) ≡ Does insn
     pub so_a : lone_does j insn (at_rest ca da) ≡ after (confined true ca (does_freely insn ca values_a).core) left_a rest false
     pub so_b : lone_does j insn (at_rest cb db) ≡ after (confined true cb (does_freely insn cb values_b).core) left_b rest false
+    pub kept_a : (i : ℕ) → NotIn i ws → word left_a i ≡ word da i
     pub landing : Single terms m gives (confined true ca (does_freely insn ca values_a).core) left_a (confined true cb (does_freely insn cb values_b).core) left_b
 
   pub plain_parts : (insn : Insn) → Does_alike insn → (x : PointState) (ca da cb db : List ℕ) → AgreeAt m x ca da cb db → met m.text text x.point.addr ≡ Some insn → (step_plain terms m text insn x).violations ≡ [] →
-      Parts insn (step_plain terms m text insn x).gives ca da cb db
+      Parts insn (step_plain terms m text insn x).gives (written_words m (write_reaches (plan_val insn x.point.addr x.state.core))) ca da cb db
   plain_parts insn h x ca da cb db at e none =
       let pc = x.point.addr in
       let v = x.state.core in
@@ -294,24 +295,9 @@ module _ (terms : Terms) (key : List ℕ) (m : Module) (text : List ℕ) (caller
         doing_b = fetched cb db insn ev_b (ap (λ a. holds m.text a) at.pc_b ∙ at.in_text) (ap (λ a. met m.text text a) at.pc_b ∙ e) h.alone (ap (all_inside j) (h.asks_is cb ∙ f.1) ∙ ins);
         so_a = does_so insn h ca da xs refl;
         so_b = does_so insn h cb db xs f.1;
+        kept_a = λ i k. writes_keep m shape da rs xs (does_freely insn ca va).stored i f.0 k;
         landing = lands_unless terms m t.stops pc t.call_string dv.core (writes_val m x.state.words (write_reaches rs) dv.stored) _ _ _ _ core words n2;
       }
-
-  -- the words of the data that it does not write
-  pub plain_kept : (insn : Insn) (h : Does_alike insn) (x : PointState) (ca da cb db : List ℕ) (at : AgreeAt m x ca da cb db) (e : met m.text text x.point.addr ≡ Some insn) (none : (step_plain terms m text insn x).violations ≡ []) →
-      (i : ℕ) → NotIn i (written_words m (write_reaches (plan_val insn x.point.addr x.state.core))) → word (plain_parts insn h x ca da cb db at e none).left_a i ≡ word da i
-  unfolding plain_parts
-  plain_kept insn h x ca da cb db at e none i k =
-      let pc = x.point.addr in
-      let v = x.state.core in
-      let rs = plan_val insn pc v in
-      let vs = map (read_val m text x.state.words) (read_reaches rs) in
-      let dv = does_val insn pc v vs in
-      let t = return_turn insn pc x.point.call_string vs in
-      let g = goes_unless terms t.stops m pc t.call_string dv.core (writes_val m x.state.words (write_reaches rs) dv.stored) in
-      let n3 = none_left (reach_violations m pc rs) t.violations (none_left (reach_violations m pc rs ++ t.violations) g.violations none) in
-      let f = fixed m pc rs (plan insn ca) (plan insn cb) (h.reached pc v ca cb at.pc_a at.pc_b at.core) n3 in
-      writes_keep m shape da rs (plan insn ca) (does_freely insn ca (map (lone_read j da) (reads_of (plan insn ca)))).stored i f.0 k
 
   plain_crossing : (insn : Insn) → Does_alike insn → (x : PointState) (ca da cb db : List ℕ) → AgreeAt m x ca da cb db → met m.text text x.point.addr ≡ Some insn → (step_plain terms m text insn x).violations ≡ [] →
       Crossing terms m j (AgreeAt m) (step_plain terms m text insn x).gives (at_rest ca da) (at_rest cb db)

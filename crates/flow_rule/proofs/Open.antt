@@ -124,10 +124,10 @@ module _ (terms : Terms) (key : List ℕ) (m : Module) (text : List ℕ) (caller
       by la lb e (Shut same ea eb) = Shut same ea eb
 
   -- ---- an instruction among the words 10 to 16, to word k
-  open_crossing : (insn : Insn) (gives : List PointState) (ca da cb db : List ℕ) (k : ℕ) (q : Parts terms key m text caller shape insn gives ca da cb db) →
+  open_crossing : (insn : Insn) (gives : List PointState) (ws ca da cb db : List ℕ) (k : ℕ) (q : Parts terms key m text caller shape insn gives ws ca da cb db) →
       reg (confined true ca (does_freely insn ca q.values_a).core) 0 ≡ t0 + 2 * k → holds m.text (t0 + 2 * k) ≡ true →
       HasEntry n (k == 17) k (confined true ca (does_freely insn ca q.values_a).core) (confined true cb (does_freely insn cb q.values_b).core) → Crossing terms m j (AtStub m n) gives (at_rest ca da) (at_rest cb db)
-  open_crossing insn gives ca da cb db k q pc inn next =
+  open_crossing insn gives ws ca da cb db k q pc inn next =
       record {
         cycles = suc q.rest;
         some = omega arith;
@@ -244,7 +244,7 @@ module _ (terms : Terms) (key : List ℕ) (m : Module) (text : List ℕ) (caller
         let e : step_of terms m text x ≡ step_plain terms m text insn x = step_is x insn met_x ∙ plain in
         let q = plain_parts terms key m text caller shape insn alike x ca da cb db at met_x (ap (λ s. s.violations) (sym e) ∙ none) in
         subst (λ s. Crossing terms m j (AtStub m n) s.gives (at_rest ca da) (at_rest cb db)) (sym e)
-        (open_crossing insn (step_plain terms m text insn x).gives ca da cb db k' q (pc ca q.values_a (at.pc_a ∙ here) at.core.long_a few) (in_place k' lt') (next q.values_a q.values_b))
+        (open_crossing insn (step_plain terms m text insn x).gives _ ca da cb db k' q (pc ca q.values_a (at.pc_a ∙ here) at.core.long_a few) (in_place k' lt') (next q.values_a q.values_b))
 
     sixes : (k' : ℕ) (ca' cb' : List ℕ) → IsOpen k' → reg ca' 6 ≡ reg ca 6 → reg cb' 6 ≡ reg cb 6 → HasEntry n false k' ca' cb'
     sixes k' ca' cb' is ea eb = (is, subst (λ i. i < n) (sym ea) few, ea ∙ equal ∙ sym eb)
