@@ -4,8 +4,7 @@ use Rattle.flow_rule.specs.declared.Reason.{Reason}
 use Rattle.flow_rule.specs.declared.Reason.TheVariants as reason
 use Rattle.flow_rule.specs.declared.Verdict.{Verdict}
 use Rattle.flow_rule.specs.declared.Verdict.TheVariants.{Yes, No}
-use Rattle.flow_rule.specs.Iterations.{PointState, RuleViolation, FlowStep, given_points, iteration, iterations, IsLabelling}
-use Rattle.flow_rule.specs.Iterations.{all_violations}
+use Rattle.flow_rule.specs.Iterations.{PointState, RuleViolation, FlowStep, given_points, iteration, iterations, IsLabelling, all_violations}
 use Rattle.flow_rule.specs.Violations.{number_of, NotAfter, BeforeAll, AmongThem}
 use Rattle.flow_rule.specs.Verdict.{Decided}
 use Rattle.flow_rule.proofs.Ends.{all_longer}

@@ -1,15 +1,14 @@
 -- Where a call begins.
-use Rattle.std.proofs.Common.{◌≡◌, inl, ℕ, zero, suc, ◌+◌, ◌%◌, ◌<◌, ◌==◌, List, set, replicate, refl, sym, ap, ◌∙◌, subst, arith, true, false}
+use Rattle.std.proofs.Common.{◌≡◌, inl, ℕ, zero, suc, ◌+◌, ◌%◌, ◌<◌, ◌≤◌, ◌==◌, List, length, set, replicate, refl, sym, ap, ◌∙◌, subst, arith, true, false}
 use Rattle.std.proofs.lemmas.Bool.Decides.{nat_tests}
-use Rattle.sm_words.specs.Words.{reg, nth}
+use Rattle.sm_words.specs.Words.{reg, nth, IsCore}
 use Rattle.mod_layout.specs.declared.Module.{Module}
 use Rattle.mod_layout.specs.declared.Section.{Section}
 use Rattle.mod_layout.specs.Table.{holds}
 use Rattle.mod_layout.specs.Tables.{IsSection}
-use Rattle.cpu_step.specs.Lone.{Entrance, starts, job_of, outcome}
-use Rattle.sm_words.specs.Words.{IsCore}
-use Rattle.cpu_step.specs.Lone.{IsEntry}
+use Rattle.cpu_step.specs.Lone.{Entrance, starts, job_of, outcome, IsEntry}
 use Rattle.flow_rule.specs.Terms.{Terms}
+use Rattle.flow_rule.specs.declared.Val.{Val}
 use Rattle.flow_rule.specs.declared.Val.TheVariants.{Away, Public, Secret}
 use Rattle.flow_rule.specs.Values.{val}
 use Rattle.flow_rule.specs.Stub.{word_number}
@@ -46,26 +45,20 @@ starts_at s c pc e z (suc (suc zero)) = refl
 starts_at s c pc e z (suc (suc (suc zero))) = (z, z)
 starts_at s c pc e z (suc (suc (suc (suc n)))) = publics s 12 n (reg c (suc (suc (suc (suc n)))))
 
-pub begins_at : (terms : Terms) (m : Module) (c da db : List ℕ) (pc : ℕ) → IsCore c → reg c 0 ≡ pc → holds m.text pc ≡ true → IsData m da → IsData m db → AgreeOn m terms.public da db → AgreeAt m (start_point terms m pc (no_secret pc)) c da c db
-begins_at terms m c da db pc ok e t pa pb agree =
+-- one core, and any data that agree on the public words
+one_core : (terms : Terms) (m : Module) (v : List Val) (c da db : List ℕ) (pc : ℕ) → length v ≤ 16 → length c ≡ 16 → ((n : ℕ) → Agrees m.text (val v n) (reg c n) (reg c n)) → reg c 2 < 512 → reg c 3 ≡ 0 → reg c 0 % 2 ≡ 0 → reg c 0 ≡ pc → holds m.text pc ≡ true →
+    IsData m da → IsData m db → AgreeOn m terms.public da db → AgreeAt m (start_point terms m pc v) c da c db
+one_core terms m v c da db pc short long at nine three even here inn pa pb agree =
     record {
-      pc_a = e;
-      pc_b = e;
-      core = record {
-        short = omega arith;
-        long_a = ok.sixteen;
-        long_b = ok.sixteen;
-        at = starts_at m.text c pc e ok.zero_three;
-        mode_same = refl;
-        nine_a = ok.nine_bits;
-        nine_b = ok.nine_bits;
-        even_pc = ok.even_pc;
-        zero_a = ok.zero_three;
-        zero_b = ok.zero_three;
-      };
+      pc_a = here;
+      pc_b = here;
+      core = record { short = short; long_a = long; long_b = long; at = at; mode_same = refl; nine_a = nine; nine_b = nine; even_pc = even; zero_a = three; zero_b = three };
       words = record { is_a = pa; is_b = pb; at = opened_at m terms.public (replicate 256 Secret) da db agree (λ i. secrets m.text 256 i _ _) };
-      in_text = t;
+      in_text = inn;
     }
+
+pub begins_at : (terms : Terms) (m : Module) (c da db : List ℕ) (pc : ℕ) → IsCore c → reg c 0 ≡ pc → holds m.text pc ≡ true → IsData m da → IsData m db → AgreeOn m terms.public da db → AgreeAt m (start_point terms m pc (no_secret pc)) c da c db
+begins_at terms m c da db pc ok e t pa pb agree = one_core terms m (no_secret pc) c da db pc (omega arith) ok.sixteen (starts_at m.text c pc e ok.zero_three) ok.nine_bits ok.zero_three ok.even_pc e t pa pb agree
 
 pub start_in : (m : Module) → m.text.start < m.text.end → holds m.text m.text.start ≡ true
 start_in m lt = grind (arith, nat_tests)
@@ -94,24 +87,8 @@ stub_begins terms m text n p shape facts c da db six seven small out h few pa pb
     let pc = m.text.start + 20 in
     let s0 = shape.text_start in
     record {
-      agree = record {
-        pc_a = h.here;
-        pc_b = h.here;
-        core = record {
-          short = omega arith;
-          long_a = h.long;
-          long_b = h.long;
-          at = away_start m.text c pc h.here h.three (subst (λ i. i < 65536) (sym h.seven_is) small) (ap (λ i. holds m.text i) h.seven_is ∙ out);
-          mode_same = refl;
-          nine_a = h.nine;
-          nine_b = h.nine;
-          even_pc = ap (λ i. i % 2) h.here ∙ even_20;
-          zero_a = h.three;
-          zero_b = h.three;
-        };
-        words = record { is_a = pa; is_b = pb; at = opened_at m terms.public (replicate 256 Secret) da db agree (λ i. secrets m.text 256 i _ _) };
-        in_text = inside;
-      };
+      agree = one_core terms m (set (no_secret pc) 7 Away) c da db pc (omega arith) h.long (away_start m.text c pc h.here h.three (subst (λ i. i < 65536) (sym h.seven_is) small) (ap (λ i. holds m.text i) h.seven_is ∙ out))
+          h.nine h.three (ap (λ i. i % 2) h.here ∙ even_20) h.here inside pa pb agree;
       entry = λ low. subst (λ k. HasEntry n (k == 17) k c c) (sym at_10) (inl refl, subst (λ i. i < n) (sym h.six_is) few, refl);
     }
   where
