@@ -5,7 +5,7 @@ use Rattle.insn_decode.specs.declared.insn.Insn.{Insn}
 use Rattle.insn_decode.specs.Code.{words_of as words_in, width_of, offset_of}
 use Rattle.insn_decode.specs.Means.{condition_code, Source, register, symbolic, absolute, indexed, indirect, increment, immediate, Destination, to_register, to_symbolic, to_absolute, to_indexed, Means, format_one, format_two, jump, return, unit}
 use Rattle.insn_decode.proofs.Table.{insn_means}
-use Rattle.asm_text.specs.Encoding.{source_mode, source_register, dest_mode, byte_flag, offset_bits, encoded_first, extension, encoded_words}
+use Rattle.asm_text.specs.Encoding.{source_mode, operand_register, byte_flag, offset_bits, encoded_first, extension, encoded_words}
 use Rattle.asm_text.specs.Laws.{WordsComeBack}
 use Rattle.asm_text.proofs.JumpLemmas.{bits_back}
 
@@ -14,7 +14,7 @@ use Rattle.asm_text.proofs.JumpLemmas.{bits_back}
 -- an operand has this mode and register, and this word where it has any
 record HasSource (m r x : ℕ) (o : Operand) : Type 0 where
   pub mode : source_mode o ≡ m
-  pub number : source_register o ≡ r
+  pub number : operand_register o ≡ r
   pub words : ((words_in o ≡ 0) × (extension o ≡ [])) ⊎ ((words_in o ≡ 1) × (extension o ≡ x ∷ []))
 
 source_back : {m r x : ℕ} {o : Operand} → Source m r x o → r < 16 → HasSource m r x o
@@ -28,8 +28,8 @@ source_back (immediate x) low = record { mode = refl; number = refl; words = inr
 source_back _ low = record { mode = refl; number = refl; words = inl (refl, refl) }
 
 record HasDest (m r x : ℕ) (o : Operand) : Type 0 where
-  pub mode : dest_mode o ≡ m
-  pub number : source_register o ≡ r
+  pub mode : words_in o ≡ m
+  pub number : operand_register o ≡ r
   pub words : ((words_in o ≡ 0) × (extension o ≡ [])) ⊎ ((words_in o ≡ 1) × (extension o ≡ x ∷ []))
 
 dest_back : {m r x : ℕ} {o : Operand} → Destination m r x o → r < 16 → HasDest m r x o
@@ -71,13 +71,13 @@ unfolding encoded_first
 means_back {w0} {w1} {w2} (format_one op s d c source dest) =
     let a = source_back source (omega arith) in
     let b = dest_back dest (omega arith) in
-    let first = two_word w0 _ (source_register s) (dest_mode d) (byte_flag (width_of ((w0 / 64) % 2))) (source_mode s) (source_register d) c a.number b.mode (flag_back ((w0 / 64) % 2) (omega arith)) a.mode b.number in
+    let first = two_word w0 _ (operand_register s) (words_in d) (byte_flag (width_of ((w0 / 64) % 2))) (source_mode s) (operand_register d) c a.number b.mode (flag_back ((w0 / 64) % 2) (omega arith)) a.mode b.number in
     let rest = two_extensions s d w1 w2 a.words b.words in
     let size : 1 + words_in s + words_in d ≡ suc (words_in s + words_in d) = omega arith in
     ap (λ w. w ∷ extension s ++ extension d) first ∙ (ap (λ ws. w0 ∷ ws) rest ∙ ap (λ n. take n (w0 ∷ w1 ∷ w2 ∷ [])) (sym size))
 means_back {w0} {w1} {w2} (format_two op a c k source fits) =
     let b = source_back source (omega arith) in
-    let first = one_word w0 _ (byte_flag (width_of ((w0 / 64) % 2))) (source_mode a) (source_register a) c k (flag_back ((w0 / 64) % 2) (omega arith)) b.mode b.number in
+    let first = one_word w0 _ (byte_flag (width_of ((w0 / 64) % 2))) (source_mode a) (operand_register a) c k (flag_back ((w0 / 64) % 2) (omega arith)) b.mode b.number in
     let rest = one_extension a w1 w2 b.words in
     let size : 1 + words_in a ≡ suc (words_in a) = omega arith in
     ap (λ w. w ∷ extension a) first ∙ (ap (λ ws. w0 ∷ ws) rest ∙ ap (λ n. take n (w0 ∷ w1 ∷ w2 ∷ [])) (sym size))

@@ -13,7 +13,7 @@ use Rattle.insn_decode.specs.declared.insn.Insn.{Insn}
 use Rattle.insn_decode.specs.declared.insn.Insn.TheVariants.{Two, One, Jump, Reti, Unit as UnitOp}
 use Rattle.insn_decode.specs.Code.{words_of as words_in, width_of, one_fits, is_constant}
 use Rattle.insn_decode.specs.Means.{two_code, one_code, Means, IsPlain, Source, register, symbolic, absolute, indexed, indirect, increment, immediate, four, eight, nought, one, two, all_ones, Destination, to_register, to_symbolic, to_absolute, to_indexed, format_one, format_two, return, unit}
-use Rattle.asm_text.specs.Encoding.{source_mode, source_register, dest_mode, byte_flag, encoded_first, extension, IsMeant, is_plain, is_source, is_dest, is_coded}
+use Rattle.asm_text.specs.Encoding.{source_mode, operand_register, byte_flag, encoded_first, extension, IsMeant, is_plain, is_source, is_dest, is_coded}
 
 -- ---- the fields of a first word
 
@@ -75,13 +75,13 @@ pub mode_low : (o : Operand) → source_mode o < 4
 mode_low (Const c) = grind (arith, nat_tests)
 mode_low _ = omega arith
 
-pub register_low : (o : Operand) → source_register o < 16
+pub register_low : (o : Operand) → operand_register o < 16
 register_low (Const c) = grind (arith, nat_tests)
 register_low _ = omega arith
 
-dest_mode_low : (o : Operand) → dest_mode o < 2
-dest_mode_low (Reg r) = omega arith
-dest_mode_low _ = omega arith
+words_low : (o : Operand) → words_in o < 2
+words_low (Reg r) = omega arith
+words_low _ = omega arith
 
 flag_low : (w : Width) → byte_flag w < 2
 flag_low Byte = omega arith
@@ -95,17 +95,17 @@ flag_width WordWidth = refl
 abbrev ext_of : Operand → ℕ → ℕ
 ext_of o other = get_or (extension o ++ other ∷ []) 0 0
 
-constant_source : (c x : ℕ) → is_constant c ≡ true → Source (source_mode (Const c)) (source_register (Const c)) x (Const c)
+constant_source : (c x : ℕ) → is_constant c ≡ true → Source (source_mode (Const c)) (operand_register (Const c)) x (Const c)
 constant_source c x e = by (nat_eq c 0) (nat_eq c 1) (nat_eq c 2) (nat_eq c 4) (nat_eq c 8) (nat_eq c 65535) refl refl refl refl refl refl e
   where
     at : (k : ℕ) → nat_eq c k ≡ true → k ≡ c
     at k is = grind (arith, nat_tests)
 
-    along : (k : ℕ) → nat_eq c k ≡ true → Source (source_mode (Const k)) (source_register (Const k)) x (Const k) → Source (source_mode (Const c)) (source_register (Const c)) x (Const c)
-    along k is s = subst (λ j. Source (source_mode (Const j)) (source_register (Const j)) x (Const j)) (at k is) s
+    along : (k : ℕ) → nat_eq c k ≡ true → Source (source_mode (Const k)) (operand_register (Const k)) x (Const k) → Source (source_mode (Const c)) (operand_register (Const c)) x (Const c)
+    along k is s = subst (λ j. Source (source_mode (Const j)) (operand_register (Const j)) x (Const j)) (at k is) s
 
     by : (a b d f g h : Bool) → nat_eq c 0 ≡ a → nat_eq c 1 ≡ b → nat_eq c 2 ≡ d → nat_eq c 4 ≡ f → nat_eq c 8 ≡ g → nat_eq c 65535 ≡ h → (a || b || d || f || g || h) ≡ true
-        → Source (source_mode (Const c)) (source_register (Const c)) x (Const c)
+        → Source (source_mode (Const c)) (operand_register (Const c)) x (Const c)
     by true b d f g h i0 i1 i2 i4 i8 i9 k = along 0 i0 (nought x)
     by false true d f g h i0 i1 i2 i4 i8 i9 k = along 1 i1 (one x)
     by false false true f g h i0 i1 i2 i4 i8 i9 k = along 2 i2 (two x)
@@ -114,7 +114,7 @@ constant_source c x e = by (nat_eq c 0) (nat_eq c 1) (nat_eq c 2) (nat_eq c 4) (
     by false false false false false true i0 i1 i2 i4 i8 i9 k = along 65535 i9 (all_ones x)
     by false false false false false false i0 i1 i2 i4 i8 i9 k = absurd cc
 
-pub source_is : (o : Operand) (other : ℕ) → is_source o ≡ true → Source (source_mode o) (source_register o) (ext_of o other) o
+pub source_is : (o : Operand) (other : ℕ) → is_source o ≡ true → Source (source_mode o) (operand_register o) (ext_of o other) o
 source_is (Reg r) other e =
     let two' = and_parts (nat_lt r 16) (not (nat_eq r 3)) e in
     let low = two'.0 in
@@ -132,7 +132,7 @@ source_is (Absolute x) other e = absolute x
 source_is (Indirect r) other e = let p = register_plain r e in let l = p.low in let small : r % 16 ≡ r = omega arith in subst (λ k. Source 2 k other (Indirect r)) (sym small) (indirect r other p.plain)
 source_is (Increment r) other e = let p = register_plain r e in let l = p.low in let small : r % 16 ≡ r = omega arith in subst (λ k. Source 3 k other (Increment r)) (sym small) (increment r other p.plain)
 
-pub dest_is : (o : Operand) (other : ℕ) → is_dest o ≡ true → Destination (dest_mode o) (source_register o) (ext_of o other) o
+pub dest_is : (o : Operand) (other : ℕ) → is_dest o ≡ true → Destination (words_in o) (operand_register o) (ext_of o other) o
 dest_is (Reg r) other e = let low = e in let small : r % 16 ≡ r = let l : r < 16 = grind (arith, nat_tests) in omega arith in subst (λ k. Destination 0 k other (Reg r)) (sym small) (to_register r other)
 dest_is (Indexed r x) other e = let p = register_plain r e in let l = p.low in let small : r % 16 ≡ r = omega arith in subst (λ k. Destination 1 k x (Indexed r x)) (sym small) (to_indexed r x p.plain)
 dest_is (Symbolic x) other e = to_symbolic x
@@ -165,23 +165,23 @@ pair _ d w1 w2 e = (ap (λ (l : List ℕ). get_or l 0 0) e, word_of d w2 [] (ap 
 two_means : (op : TwoOp) (w : Width) (s d : Operand) → is_source s ≡ true → is_dest d ≡ true → IsMeant (Two op w s d)
 unfolding encoded_first
 two_means op w s d hs hd w1 w2 e =
-    let w0 = two_code op * 4096 + source_register s * 256 + dest_mode d * 128 + byte_flag w * 64 + source_mode s * 16 + source_register d in
-    let f = fields (two_code op) (source_register s) (dest_mode d) (byte_flag w) (source_mode s) (source_register d) (register_low s) (dest_mode_low d) (flag_low w) (mode_low s) (register_low d) in
+    let w0 = two_code op * 4096 + operand_register s * 256 + words_in d * 128 + byte_flag w * 64 + source_mode s * 16 + operand_register d in
+    let f = fields (two_code op) (operand_register s) (words_in d) (byte_flag w) (source_mode s) (operand_register d) (register_low s) (words_low d) (flag_low w) (mode_low s) (register_low d) in
     let p = pair s d w1 w2 e in
     let source : Source ((w0 / 16) % 4) ((w0 / 256) % 16) w1 s =
-    subst (λ m. Source m ((w0 / 256) % 16) w1 s) (sym f.mode) (subst (λ r. Source (source_mode s) r w1 s) (sym f.source) (subst (λ x. Source (source_mode s) (source_register s) x s) p.0 (source_is s w1 hs))) in
+    subst (λ m. Source m ((w0 / 256) % 16) w1 s) (sym f.mode) (subst (λ r. Source (source_mode s) r w1 s) (sym f.source) (subst (λ x. Source (source_mode s) (operand_register s) x s) p.0 (source_is s w1 hs))) in
     let dest : Destination ((w0 / 128) % 2) (w0 % 16) (cond (nat_eq (words_in s) 1) w2 w1) d =
-    subst (λ m. Destination m (w0 % 16) (cond (nat_eq (words_in s) 1) w2 w1) d) (sym f.dest_mode_is) (subst (λ r. Destination (dest_mode d) r (cond (nat_eq (words_in s) 1) w2 w1) d) (sym f.register_is) (subst (λ x. Destination (dest_mode d) (source_register d) x d) p.1 (dest_is d (cond (nat_eq (words_in s) 1) w2 w1) hd))) in
+    subst (λ m. Destination m (w0 % 16) (cond (nat_eq (words_in s) 1) w2 w1) d) (sym f.dest_mode_is) (subst (λ r. Destination (words_in d) r (cond (nat_eq (words_in s) 1) w2 w1) d) (sym f.register_is) (subst (λ x. Destination (words_in d) (operand_register d) x d) p.1 (dest_is d (cond (nat_eq (words_in s) 1) w2 w1) hd))) in
     let width : width_of ((w0 / 64) % 2) ≡ w = ap width_of f.byte ∙ flag_width w in
     subst (λ (v : Width). Means w0 w1 w2 (Two op v s d) (1 + words_in s + words_in d)) width (format_one op s d f.op_is source dest)
 
 one_means : (op : OneOp) (w : Width) (a : Operand) → is_source a ≡ true → one_fits op w a ≡ true → IsMeant (One op w a)
 unfolding encoded_first
 one_means op w a ha fits w1 w2 e =
-    let w0 = 4096 + one_code op * 128 + byte_flag w * 64 + source_mode a * 16 + source_register a in
-    let f = few_fields (one_code op) (byte_flag w) (source_mode a) (source_register a) (one_code_low op) (flag_low w) (mode_low a) (register_low a) in
+    let w0 = 4096 + one_code op * 128 + byte_flag w * 64 + source_mode a * 16 + operand_register a in
+    let f = few_fields (one_code op) (byte_flag w) (source_mode a) (operand_register a) (one_code_low op) (flag_low w) (mode_low a) (register_low a) in
     let source : Source ((w0 / 16) % 4) (w0 % 16) w1 a =
-    subst (λ m. Source m (w0 % 16) w1 a) (sym f.mode) (subst (λ r. Source (source_mode a) r w1 a) (sym f.register_is) (subst (λ x. Source (source_mode a) (source_register a) x a) (word_of a w1 (w2 ∷ []) e) (source_is a w1 ha))) in
+    subst (λ m. Source m (w0 % 16) w1 a) (sym f.mode) (subst (λ r. Source (source_mode a) r w1 a) (sym f.register_is) (subst (λ x. Source (source_mode a) (operand_register a) x a) (word_of a w1 (w2 ∷ []) e) (source_is a w1 ha))) in
     let width : width_of ((w0 / 64) % 2) ≡ w = ap width_of f.byte ∙ flag_width w in
     subst (λ (v : Width). Means w0 w1 w2 (One op v a) (1 + words_in a)) width
     (format_two op a f.form f.op_is source (subst (λ (v : Width). one_fits op v a ≡ true) (sym width) fits))

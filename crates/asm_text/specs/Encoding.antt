@@ -8,7 +8,7 @@ use Rattle.insn_decode.specs.declared.insn.Operand.TheVariants.{Reg, Const, Imm,
 use Rattle.insn_decode.specs.declared.insn.Condition.{Condition}
 use Rattle.insn_decode.specs.declared.insn.Insn.{Insn}
 use Rattle.insn_decode.specs.declared.insn.Insn.TheVariants.{Two, One, Jump, Reti, Unit as UnitOp}
-use Rattle.insn_decode.specs.Code.{length_of, one_fits, is_constant}
+use Rattle.insn_decode.specs.Code.{words_of, length_of, one_fits, is_constant}
 use Rattle.insn_decode.specs.Means.{two_code, one_code, condition_code, unit_code, Means}
 
 -- ---- fields of a first word
@@ -24,21 +24,16 @@ source_mode (Absolute x) = 1
 source_mode (Indirect r) = 2
 source_mode (Increment r) = 3
 
--- the register that a source's mode goes with: constants are modes of R2 and R3
-abbrev pub source_register : Operand → ℕ
-source_register (Reg r) = r % 16
-source_register (Const c) = if c == 4 then 2 else (if c == 8 then 2 else 3)
-source_register (Imm x) = 0
-source_register (Indexed r x) = r % 16
-source_register (Symbolic x) = 0
-source_register (Absolute x) = 2
-source_register (Indirect r) = r % 16
-source_register (Increment r) = r % 16
-
--- the mode of a destination
-abbrev pub dest_mode : Operand → ℕ
-dest_mode (Reg r) = 0
-dest_mode _ = 1
+-- the register that an operand's mode goes with: constants are modes of R2 and R3
+abbrev pub operand_register : Operand → ℕ
+operand_register (Reg r) = r % 16
+operand_register (Const c) = if c == 4 then 2 else (if c == 8 then 2 else 3)
+operand_register (Imm x) = 0
+operand_register (Indexed r x) = r % 16
+operand_register (Symbolic x) = 0
+operand_register (Absolute x) = 2
+operand_register (Indirect r) = r % 16
+operand_register (Increment r) = r % 16
 
 abbrev pub byte_flag : Width → ℕ
 byte_flag Byte = 1
@@ -52,10 +47,10 @@ offset_bits (negsuc n) = 1023 - n % 1024
 abbrev pub jump_word : Condition → ℤ → ℕ
 jump_word condition offset = 0x2000 + condition_code condition * 1024 + offset_bits offset
 
--- the first word; it means the instruction where any word does
+-- the first word; it means the instruction where any word does. The mode of a destination is how many words follow for it
 unfoldable pub encoded_first : Insn → ℕ
-encoded_first (Two op w s d) = two_code op * 0x1000 + source_register s * 256 + dest_mode d * 128 + byte_flag w * 64 + source_mode s * 16 + source_register d
-encoded_first (One op w a) = 0x1000 + one_code op * 128 + byte_flag w * 64 + source_mode a * 16 + source_register a
+encoded_first (Two op w s d) = two_code op * 0x1000 + operand_register s * 256 + words_of d * 128 + byte_flag w * 64 + source_mode s * 16 + operand_register d
+encoded_first (One op w a) = 0x1000 + one_code op * 128 + byte_flag w * 64 + source_mode a * 16 + operand_register a
 encoded_first (Jump condition offset) = jump_word condition offset
 encoded_first Reti = 0x1300
 encoded_first (UnitOp name) = 0x1380 + unit_code name

@@ -72,8 +72,8 @@ fn source_mode(operand: Operand) -> u16
     }
 }
 
-fn source_register(operand: Operand) -> u16
-    ensures exact { result ≡ spec.source_register operand }
+fn operand_register(operand: Operand) -> u16
+    ensures exact { result ≡ spec.operand_register operand }
     ensures most { result < 16 }
 {
     match operand {
@@ -86,16 +86,6 @@ fn source_register(operand: Operand) -> u16
         Operand::Const(_) => 3,
         Operand::Imm(_) | Operand::Symbolic(_) => 0,
         Operand::Absolute(_) => 2,
-    }
-}
-
-fn dest_mode(operand: Operand) -> u16
-    ensures exact { result ≡ spec.dest_mode operand }
-    ensures most { result < 2 }
-{
-    match operand {
-        Operand::Reg(_) => 0,
-        _ => 1,
     }
 }
 
@@ -128,19 +118,20 @@ pub fn encoded_first(insn: Insn) -> u16
             src,
             dst,
         } => {
+            // A destination's mode, bit 7, is its number of words.
             two_code(op) * 4096
-                + source_register(src) * 256
-                + dest_mode(dst) * 128
+                + operand_register(src) * 256
+                + dst.words() * 128
                 + byte_flag(width) * 64
                 + source_mode(src) * 16
-                + source_register(dst)
+                + operand_register(dst)
         }
         Insn::One { op, width, arg } => {
             FORMAT_TWO
                 + one_code(op) * 128
                 + byte_flag(width) * 64
                 + source_mode(arg) * 16
-                + source_register(arg)
+                + operand_register(arg)
         }
         Insn::Jump { condition, offset } => jump_word(condition, i64::from(offset)),
         Insn::Reti => RETI,
