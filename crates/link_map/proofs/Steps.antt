@@ -1,25 +1,35 @@
 -- One element more of a text that is written.
-use Rattle.std.proofs.Common.{◌≡◌, ℕ, zero, suc, Bool, true, false, Vec, ◌+◌, ◌<◌, ◌≤◌, List, [], ◌∷◌, ◌++◌, codes, drop, length, get_or, map, refl, ap, sym, ◌∙◌, arith, subst}
+use Rattle.std.proofs.Common.{◌≡◌, ℕ, zero, suc, Bool, true, false, Vec, Bor, Some, ◌+◌, ◌<◌, ◌≤◌, List, [], ◌∷◌, ◌++◌, codes, drop, length, length-append, get_or, map, refl, ap, sym, ◌∙◌, arith, subst}
 use Rattle.std.specs.List.{flat_map, range_with_len}
-use Rattle.std.specs.Prelude.{filter, insert, nat_lt}
+use Rattle.std.specs.Prelude.{filter, insert, nat_lt, option_map, slice_get}
 use Rattle.std.proofs.lemmas.Bool.Decides.{nat_tests}
 use Rattle.std.proofs.lemmas.List.{append_assoc, append-nil, drop_all, drop_more, flat_map_more, get_or_default, length-map}
+use Rattle.std.proofs.lemmas.Option.{get_or_from_slice_get, same_Some, slice_get-map, slice_get_within}
 use Rattle.std.specs.declared.alloc.Global.{Global}
 use Rattle.elf_objects.specs.Object.{ObjectValue}
 use Rattle.elf_objects.specs.declared.object.Symbol.{Symbol}
 use Rattle.layout_file.specs.declared.parts.ModuleSpec.{ModuleSpec}
+use Rattle.layout_file.specs.Values.{LayoutValue}
 use Rattle.layout_file.specs.Views.{module_value}
 use Rattle.linker.specs.Linkage.{listed_numbers, numbers_in_list}
 use Rattle.linker.specs.Numbers.{Linking, numbers_in, linked_number}
+use Rattle.link_symbols.specs.declared.item.Item.{Item}
+use Rattle.link_symbols.specs.CommonNames.{borrowed, common_name, common_names}
+use Rattle.link_symbols.specs.Commons.{Common, common_item, commons_of}
+use Rattle.link_symbols.specs.Names.{count_sections}
+use Rattle.link_symbols.specs.Parts.{section_items}
+use Rattle.link_symbols.specs.Resolved.{items_of}
+use Rattle.link_symbols.specs.Symbols.{named_symbols}
+use Rattle.link_symbols.proofs.InputLemmas.{count_items}
 use Rattle.link_symbols.specs.Passes.{NumberedObject, numbered_objects_from, map_at, part}
 use Rattle.link_symbols.proofs.MeaningLemmas.{length_at}
 use Rattle.link_symbols.proofs.Steps.{numbered_step, numbered_over}
 use Rattle.link_map.specs.Lines.{after_blanks, numbered_text}
-use Rattle.link_map.specs.Map.{has_line, symbol_line, symbol_text, symbol_text_if}
+use Rattle.link_map.specs.Map.{common_line, common_text, has_line, symbol_line, symbol_text, symbol_text_if}
 use Rattle.link_map.specs.Modules.{PlacedModule, has_boot, placed_module}
 use Rattle.mod_layout.specs.Table.{Table}
 use Rattle.link_map.specs.Parts.{PartValue, insert_part}
-use Rattle.link_map.specs.internal.Values.{insertion_place}
+use Rattle.link_map.specs.internal.Values.{insertion_place, HasCommons}
 
 pub piece_more : (cur new piece rest total : List ℕ) → cur ++ (piece ++ rest) ≡ total → new ≡ cur ++ piece → new ++ rest ≡ total
 piece_more cur new piece rest total e made = ap (λ (l : List ℕ). l ++ rest) made ∙ (append_assoc cur piece rest ∙ e)
@@ -187,6 +197,51 @@ pub numbers_next : (l : Linking) (numbers : List (List ℕ)) (os : List ObjectVa
 numbers_next l numbers os i first n o h is same e =
     (numbers_split l numbers os i first o h is e).2 ∙ ap (λ k. map (numbers_in l) (numbered_objects_from (i + 1) (first + k) (drop (i + 1) os))) (sym same)
 
+-- ---- elements that are numbered, and not copied
+
+pub list_more : {X : Type 0} (f : ℕ → X → List ℕ) (xs : List X) (i : ℕ) (s : X) (cur new total : List ℕ) → i < length xs → s ≡ get_or xs i s →
+    cur ++ numbered_text f i (drop i xs) ≡ total → new ≡ cur ++ f i s → new ++ numbered_text f (i + 1) (drop (i + 1) xs) ≡ total
+list_more f xs i s cur new total h is e made =
+    piece_more cur new (f i s) (numbered_text f (i + 1) (drop (i + 1) xs)) total (ap (λ l. cur ++ numbered_text f i l) (sym (here xs i s s h is)) ∙ e) made
+
+pub list_end : {X : Type 0} (f : ℕ → X → List ℕ) (xs : List X) (i j : ℕ) (cur total : List ℕ) → length xs ≤ i → cur ++ numbered_text f j (drop i xs) ≡ total → cur ≡ total
+list_end f xs i j cur total h e = sym (append-nil cur) ∙ (ap (λ l. cur ++ numbered_text f j l) (sym (drop_all i xs h)) ∙ e)
+
+-- ---- the commons
+
+common_of : (commons : List Common) (k : ℕ) (n : List ℕ) → slice_get (map common_name commons) k ≡ Some n → (c : Common) × ((slice_get commons k ≡ Some c) × (c.name ≡ n))
+common_of [] k n e = cc
+common_of (c ∷ cs) zero n e = (c, (refl, same_Some c.name n e))
+common_of (c ∷ cs) (suc k) n e = common_of cs k n e
+
+behind : (front rest : List Item) (k : ℕ) → slice_get (front ++ rest) (length front + k) ≡ slice_get rest k
+behind [] rest k = let z : 0 + k ≡ k = omega arith in ap (slice_get rest) z
+behind (x ∷ xs) rest k = let z : length (x ∷ xs) + k ≡ suc (length xs + k) = omega arith in ap (slice_get (x ∷ (xs ++ rest))) z ∙ behind xs rest k
+
+pub linked_commons : (layout : LayoutValue) (os : List ObjectValue) (names : List (List ℕ)) (items : List Item) (first : ℕ) → names ≡ common_names os → items ≡ items_of layout os → first ≡ count_sections os →
+    HasCommons names items first (commons_of (named_symbols os))
+linked_commons layout os names items first named placed count = record { named = named; front = section_items layout.modules os; count = count ∙ sym (count_items layout.modules os); placed = placed }
+
+pub commons_count : (names : List (Bor (List ℕ))) (items : List Item) (first : ℕ) (commons : List Common) → HasCommons (borrowed names) items first commons → length commons ≡ length names
+commons_count names items first commons h = sym (length-map commons common_name) ∙ (sym (ap length h.named) ∙ length-map names (λ (n : Bor (List ℕ)). n.now))
+
+pub item_within : (names : List (Bor (List ℕ))) (items : List Item) (first k : ℕ) (commons : List Common) → HasCommons (borrowed names) items first commons → k < length names → first + k < length items
+item_within names items first k commons h l =
+    omega (arith, l, h.count, commons_count names items first commons h, ap length h.placed, length-append h.front (map common_item commons), length-map commons common_item)
+
+pub commons_more : (address : ℕ → ℕ) (names : List (Bor (List ℕ))) (items : List Item) (first k at : ℕ) (commons : List Common) (n : Bor (List ℕ)) (i : Item) (cur new total : List ℕ) → HasCommons (borrowed names) items first commons → slice_get names k ≡ Some n → slice_get items (first + k) ≡ Some i → at ≡ address (first + k) →
+    cur ++ numbered_text (common_line address first) k (drop k commons) ≡ total → new ≡ cur ++ common_text at i.size n.now → new ++ numbered_text (common_line address first) (k + 1) (drop (k + 1) commons) ≡ total
+commons_more address names items first k at commons n i cur new total h e f stands before made =
+    let x = common_of commons k n.now (ap (λ l. slice_get l k) (sym h.named) ∙ (slice_get-map (λ (m : Bor (List ℕ)). m.now) names k ∙ ap (option_map (λ (m : Bor (List ℕ)). m.now)) e)) in
+    let c = x.0 in
+    let its : slice_get items (first + k) ≡ Some (common_item c) = ap (λ l. slice_get l (first + k)) h.placed
+    ∙ (ap (λ (m : ℕ). slice_get (h.front ++ map common_item commons) (m + k)) h.count
+    ∙ (behind h.front (map common_item commons) k ∙ (slice_get-map common_item commons k ∙ ap (option_map common_item) x.1.0))) in
+    list_more (common_line address first) commons k c cur new total (slice_get_within commons k c x.1.0) (sym (get_or_from_slice_get commons k c c x.1.0)) before
+    (made ∙ (ap (λ (a : ℕ). cur ++ common_text a i.size n.now) stands
+    ∙ (ap (λ (j : Item). cur ++ common_text (address (first + k)) j.size n.now) (same_Some i (common_item c) (sym f ∙ its))
+    ∙ ap (λ (m : List ℕ). cur ++ common_text (address (first + k)) c.size m) (sym x.1.1))))
+
 -- ---- the symbols of an object
 
 number_at : {X : Type 0} (f : ℕ → X → ℕ) (xs : List X) (i start : ℕ) (x : X) → i < length xs → x ≡ get_or xs i x → get_or (map_at f start xs) i 0 ≡ f (start + i) x
@@ -201,14 +256,6 @@ own_number l x numbers i n s e h is within read =
     let zero_first : 0 + i ≡ i = omega arith in
     let n0 : n ≡ get_or numbers i 0 = read ∙ get_or_default numbers i n 0 within in
     n0 ∙ (ap (λ (ns : List ℕ). get_or ns i 0) e ∙ (number_at (linked_number l x) x.object.symbols i 0 s h is ∙ ap (λ k. linked_number l x k s) zero_first))
-
-pub symbols_more : (f : ℕ → Symbol → List ℕ) (xs : List Symbol) (i : ℕ) (s : Symbol) (cur new total : List ℕ) → i < length xs → s ≡ get_or xs i s →
-    cur ++ numbered_text f i (drop i xs) ≡ total → new ≡ cur ++ f i s → new ++ numbered_text f (i + 1) (drop (i + 1) xs) ≡ total
-symbols_more f xs i s cur new total h is e made =
-    piece_more cur new (f i s) (numbered_text f (i + 1) (drop (i + 1) xs)) total (ap (λ l. cur ++ numbered_text f i l) (sym (here xs i s s h is)) ∙ e) made
-
-pub symbols_end : (f : ℕ → Symbol → List ℕ) (xs : List Symbol) (i j : ℕ) (cur total : List ℕ) → length xs ≤ i → cur ++ numbered_text f j (drop i xs) ≡ total → cur ≡ total
-symbols_end f xs i j cur total h e = sym (append-nil cur) ∙ (ap (λ l. cur ++ numbered_text f j l) (sym (drop_all i xs h)) ∙ e)
 
 numbered_count : (os : List ObjectValue) (i first : ℕ) → length (numbered_objects_from i first os) ≡ length os
 numbered_count [] i first = refl

@@ -11,15 +11,14 @@ use Rattle.elf_objects.specs.declared.object.Home.TheVariants as home
 use Rattle.elf_objects.specs.declared.object.SectionHead.{SectionHead}
 use Rattle.elf_objects.specs.declared.object.Symbol.{Symbol}
 use Rattle.layout_file.specs.Values.{LayoutValue, VectorValue}
-use Rattle.link_symbols.specs.declared.item.Item.{Item}
 use Rattle.linker.specs.Image.{linked_image}
-use Rattle.link_symbols.specs.CommonNames.{common_names}
+use Rattle.link_symbols.specs.Commons.{Common, commons_of}
 use Rattle.link_symbols.specs.Names.{count_sections}
 use Rattle.linker.specs.Numbers.{Linking, linking_of, region_end, linked_number}
 use Rattle.link_symbols.specs.Parts.{is_loaded_head}
 use Rattle.link_symbols.specs.Passes.{NumberedObject, numbered_objects, part}
-use Rattle.linker.specs.Placement.{item_at, text_of, ram_of}
-use Rattle.link_symbols.specs.Resolved.{items_of}
+use Rattle.link_symbols.specs.Symbols.{named_symbols}
+use Rattle.linker.specs.Placement.{text_of, ram_of}
 use Rattle.sm_words.specs.Words.{word_at}
 use Rattle.mod_layout.specs.declared.TheConstants.{FIRST_VECTOR}
 use Rattle.mod_layout.specs.declared.Section.{Section}
@@ -44,8 +43,8 @@ abbrev pub common_text : ℕ → ℕ → List ℕ → List ℕ
 common_text at size name = line (codes "common") (address_text at ∷ address_text (at + size) ∷ name_shown name ∷ [])
 
 -- of the k-th, whose item comes after those of the sections
-abbrev pub common_line : (ℕ → ℕ) → List Item → ℕ → ℕ → List ℕ → List ℕ
-common_line address items first k name = common_text (address (first + k)) (item_at items (first + k)).size name
+abbrev pub common_line : (ℕ → ℕ) → ℕ → ℕ → Common → List ℕ
+common_line address first k c = common_text (address (first + k)) c.size c.name
 
 -- `entry ADDRESS ID K NAME`: the address that the table of the module's stub has for the k-th entry
 abbrev pub entry_line : List ℕ → ℕ → ℕ → ℕ → List ℕ → List ℕ
@@ -99,7 +98,7 @@ map_by l end image layout objects =
     codes "sancus-map 1\n"
     ++ (numbered_text (map_module_line end) 1 (by_id layout)
     ++ (flat_map (part_line image.table) (parts_of l.address objects)
-    ++ (numbered_text (common_line l.address (items_of layout objects) (count_sections objects)) 0 (common_names objects)
+    ++ (numbered_text (common_line l.address (count_sections objects)) 0 (commons_of (named_symbols objects))
     ++ (numbered_text (entry_lines image.memory) 1 (by_id layout)
     ++ (flat_map (vector_line image.memory) layout.vectors
     ++ (flat_map (symbol_lines l image.table) (numbered_objects objects)

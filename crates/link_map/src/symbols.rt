@@ -1,50 +1,32 @@
 //! The commons, and the symbols in memory.
 
-ghost use Rattle.std.specs.Prelude.{◌≡◌, ◌≤◌, ◌^◌, ◌++◌, ℕ, length, map, flat_map, slice_index, OnOk};
+ghost use Rattle.std.specs.Prelude.{◌≡◌, ◌≤◌, ◌^◌, ◌++◌, ℕ, List, length, map, flat_map, slice_index, OnOk};
 ghost use Rattle.elf_objects.specs.Object.{IsSymbol, IsHome};
 ghost use Rattle.linker.specs.Linkage.{listed_numbers};
 ghost use Rattle.link_symbols.specs.CommonNames.{borrowed};
+ghost use Rattle.link_symbols.specs.Commons.{Common};
 ghost use Rattle.linker.specs.Numbers.{Linking, numbers_in};
 ghost use Rattle.link_symbols.specs.Passes.{numbered_objects, part};
-ghost use Rattle.linker.specs.Placement.{item_at};
 ghost use Rattle.link_map.specs.Lines.{numbered_text};
 ghost use Rattle.link_map.specs.Map.{has_line, symbol_text_if, symbol_lines};
 ghost use Rattle.link_map.specs.Map as spec;
-ghost use Rattle.link_map.specs.internal.Values.{numbered_value};
+ghost use Rattle.link_map.specs.internal.Values.{numbered_value, HasCommons};
 
 use crate::lines::{MapText, Piece};
 use crate::modules::id_at;
 use crate::parts::Numbered;
 use elf_objects::{Binding, Home, Object, Symbol};
-use link_symbols::Item;
 use linker::{Linkage, address_of};
 use mod_layout::ModuleTable;
 use std::alloc::AllocError;
 
-// How many bytes an item has.
-fn size_of(items: &[Item], item: usize) -> u32
-    ensures { result ≡ (item_at items.now item).size }
+fn put_common(out: &mut MapText, at: u64, size: u32, name: &[u8]) -> Result<(), AllocError>
+    requires { at ≤ 65536 }
+    ensures { OnOk result (out.new.text.items ≡ out.old.text.items ++ spec.common_text at size name.now) }
 {
-    match items.get(item) {
-        Some(item) => item.size,
-        None => 0,
-    }
-}
-
-fn put_common(
-    out: &mut MapText,
-    linkage: &Linkage<'_>,
-    item: usize,
-    name: &[u8],
-) -> Result<(), AllocError>
-    requires { (k : ℕ) → slice_index linkage.now.addresses.items k ≤ 65536 }
-    ensures { OnOk result (out.new.text.items ≡ out.old.text.items ++ spec.common_text
-        (slice_index linkage.now.addresses.items item) (item_at linkage.now.items.items item).size name.now) }
-{
-    let at = address_of(linkage.addresses.as_slice(), item);
     let words = [
         Piece::Address(at),
-        Piece::Address(at + u64::from(size_of(linkage.items.as_slice(), item))),
+        Piece::Address(at + u64::from(size)),
         Piece::Name(name),
     ];
     out.put_line(b"common", &words)
@@ -54,11 +36,16 @@ fn put_common(
 pub fn put_commons(out: &mut MapText, linkage: &Linkage<'_>, first: usize) -> Result<(), AllocError>
     requires first { first ≤ 2 ^ 31 }
     requires low { (k : ℕ) → slice_index linkage.now.addresses.items k ≤ 65536 }
-    ensures { OnOk result (out.new.text.items ≡ out.old.text.items ++ numbered_text (spec.common_line
-        (slice_index linkage.now.addresses.items) linkage.now.items.items first) 0 (borrowed linkage.now.commons.items)) }
+    requires commons { (commons : List Common) × HasCommons (borrowed linkage.now.commons.items)
+        linkage.now.items.items first commons }
+    ensures { OnOk result ((commons : List Common) → HasCommons (borrowed linkage.now.commons.items)
+        linkage.now.items.items first commons → out.new.text.items ≡ out.old.text.items ++ numbered_text
+        (spec.common_line (slice_index linkage.now.addresses.items) first) 0 commons) }
 {
     for (k, name) in linkage.commons.iter().enumerate() {
-        put_common(out, linkage, first + k, name)?;
+        let item = first + k;
+        let at = address_of(linkage.addresses.as_slice(), item);
+        put_common(out, at, linkage.items[item].size, name)?;
     }
     Ok(())
 }

@@ -1,5 +1,5 @@
 -- Values of the code's own records.
-use Rattle.std.specs.Prelude.{ℕ, suc, List, [], ◌∷◌, nat_lt, if◌then◌else◌}
+use Rattle.std.specs.Prelude.{◌≡◌, ℕ, suc, List, [], ◌∷◌, ◌++◌, length, map, nat_lt, if◌then◌else◌}
 use Rattle.std.specs.Fmt.{decimal}
 use Rattle.layout_file.specs.Views.{module_value}
 use Rattle.link_map.specs.declared.lines.Piece.{Piece}
@@ -7,6 +7,9 @@ use Rattle.link_map.specs.declared.lines.Piece.TheVariants.{Word, Number, Addres
 use Rattle.link_map.specs.declared.modules.Booted.{Booted}
 use Rattle.link_map.specs.declared.parts.Numbered.{Numbered}
 use Rattle.link_map.specs.declared.parts.Part.{Part}
+use Rattle.link_symbols.specs.declared.item.Item.{Item}
+use Rattle.link_symbols.specs.CommonNames.{common_name}
+use Rattle.link_symbols.specs.Commons.{Common, common_item}
 use Rattle.link_symbols.specs.Passes.{NumberedObject}
 use Rattle.link_map.specs.Lines.{address_text, name_shown}
 use Rattle.link_map.specs.Modules.{PlacedModule}
@@ -32,3 +35,10 @@ numbered_value x = record { number = x.number; first = x.first; object = x.objec
 abbrev pub insertion_place : List PartValue → ℕ → ℕ
 insertion_place [] at = 0
 insertion_place (q ∷ qs) at = if nat_lt at q.at then 0 else suc (insertion_place qs at)
+
+-- these commons have these names, and their items come after so many others
+pub record HasCommons (names : List (List ℕ)) (items : List Item) (first : ℕ) (commons : List Common) : Type 0 where
+  pub named : names ≡ map common_name commons
+  pub front : List Item
+  pub count : first ≡ length front
+  pub placed : items ≡ front ++ map common_item commons
