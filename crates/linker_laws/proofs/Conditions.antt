@@ -26,7 +26,7 @@ use Rattle.link_symbols.specs.Parts.{is_loaded_head, code_part, part_of, item_of
 use Rattle.link_symbols.specs.Symbols.{named_symbol, named_symbols}
 use Rattle.link_symbols.specs.Names.{stands_for, symbol_meaning}
 use Rattle.link_symbols.specs.Resolved.{items_of}
-use Rattle.linker.specs.Placement.{item_at, text_of, ram_of}
+use Rattle.linker.specs.Placement.{text_of, ram_of}
 use Rattle.linker.specs.Numbers.{Linking, linking_of, numbers_in, region_end}
 use Rattle.linker.specs.Fields.{field_place, file_size, symbol_sum, reloc_fault_to, reloc_fault, reloc_fault_in}
 use Rattle.link_symbols.specs.Refusals.{no_place, no_place_at, no_place_in, is_used, undefined, undefined_at, undefined_in, no_vector, no_vector_at, no_entry, no_entry_at, no_entry_in, is_code_of, is_module_entry, is_entry_in, elsewhere, elsewhere_at, elsewhere_in, unresolved}
@@ -35,7 +35,7 @@ use Rattle.mod_layout.proofs.FirstLemmas.{both_none}
 use Rattle.linker.proofs.BoundLemmas.{not_over}
 use Rattle.linker.proofs.RelocLemmas.{ok_none, AppliesTo, applies}
 use Rattle.linker_laws.specs.Conditions.{SectionsPlaced, UsedStand, VectorsStand, IsEntryPlace, EntriesStand, ContentsFit, RelocationsApply, CanLink, LinksExactly}
-use Rattle.linker_laws.proofs.Searches.{or_none, in_none, none_in, at_none, none_at, refused_not, not_refused, some_is, is_some_by, got, gets}
+use Rattle.linker_laws.proofs.Searches.{or_none, in_none, none_in, at_none, none_at, found_none, none_found, refused_not, not_refused, some_is, is_some_by}
 use Rattle.linker_laws.proofs.Strong.{duplicates, no_duplicates}
 
 -- ---- sections
@@ -117,9 +117,7 @@ used_stand_by : (names : List ℕ → Option Meaning) (x : NumberedObject) (k : 
     slice_get x.object.symbols k ≡ o → is_used x.object.relocations k ≡ true → undefined_in names x ≡ None →
     Stand names x k o
 used_stand_by names x k None q u e = tt
-used_stand_by names x k (Some s) q u e =
-    let g = got x.object.symbols k s q in
-    subst (λ (t : Symbol). symbol_meaning names (named_symbol x k t) ≢ None) (g.1 s) (stands_at names x k (get_or x.object.symbols k s) u (at_none (undefined_at names x) x.object.symbols e k s g.0))
+used_stand_by names x k (Some s) q u e = stands_at names x k s u (found_none (undefined_at names x) x.object.symbols e k s q)
 
 used_stand : (names : List ℕ → Option Meaning) (objects : List ObjectValue) → undefined names objects ≡ None →
     UsedStand names objects
@@ -152,7 +150,7 @@ not_undefined : (names : List ℕ → Option Meaning) (objects : List ObjectValu
 unfolding undefined
 not_undefined names objects h = none_in (undefined_in names) (numbered_objects objects) (λ n x l.
     let o = get_or (numbered_objects objects) n x in
-    none_at (undefined_at names o) o.object.symbols (λ k s m. no_gap_at names o k (get_or o.object.symbols k s) (gets o.object.symbols k s m) (h n x l)))
+    none_found (undefined_at names o) o.object.symbols (λ k s g. no_gap_at names o k s g (h n x l)))
 
 -- ---- vectors
 
@@ -186,24 +184,21 @@ code_by i (Some p) e =
 by_code : (i : ℕ) (o : Option Part) → o ≡ Some (code_part i) → is_code_of i o ≡ true
 by_code i o e = ap (is_code_of i) e ∙ (let t : ((2 + 2 * i == 2 + 2 * i) && (zero == zero)) ≡ true = grind (arith, nat_tests) in t)
 
-item_by : (items : List Item) (k : ℕ) (x : Item) → slice_get items k ≡ Some x → item_at items k ≡ x
-item_by items k x e = (got items k x e).1 _
-
 entry_by : (items : List Item) (i k offset : ℕ) (o : Option Item) → slice_get items k ≡ o →
     is_entry_in i offset o ≡ true → IsEntryPlace items i (Some (meaning.Place k offset))
 entry_by items i k offset None q e = cc
 entry_by items i k offset (Some x) q e =
     let b = and_parts (is_code_of i x.part && (offset % 2 == 0)) (nat_lt offset x.size) e in
     let a = and_parts (is_code_of i x.part) (offset % 2 == 0) b.0 in
-    let same = item_by items k x q in
-    let size = ap (λ (y : Item). y.size) same in
     record {
       item = k;
       offset = offset;
       place = refl;
-      code = ap (λ (y : Item). y.part) same ∙ code_by i x.part a.0;
+      section = x;
+      listed = q;
+      code = code_by i x.part a.0;
       even = let t = a.1 in grind (arith, nat_tests);
-      within = let t = b.1 in let w : offset < x.size = grind (arith, nat_tests) in omega (arith, w, size);
+      within = let t = b.1 in grind (arith, nat_tests);
     }
 
 entry_of : (items : List Item) (i : ℕ) (m : Option Meaning) → is_module_entry items i m ≡ true → IsEntryPlace items i m
@@ -214,37 +209,25 @@ entry_of items i (Some (meaning.Place k offset)) e = entry_by items i k offset (
 three : (a b c : Bool) → a ≡ true → b ≡ true → c ≡ true → (a && b && c) ≡ true
 three a b c p q r = rw (p, q, r) refl
 
-item_in : (items : List Item) (i k offset : ℕ) (o : Option Item) → slice_get items k ≡ o →
-    (item_at items k).part ≡ Some (code_part i) → offset % 2 ≡ 0 → offset < (item_at items k).size →
-    is_entry_in i offset o ≡ true
-item_in items i k offset None q code even within = past items k q code
-  where
-    past : (xs : List Item) (n : ℕ) → slice_get xs n ≡ None → (item_at xs n).part ≡ Some (code_part i) → false ≡ true
-    past [] n e c = cc
-    past (x ∷ xs) zero e c = cc
-    past (x ∷ xs) (suc n) e c = past xs n e c
-item_in items i k offset (Some x) q code even within =
-    let same = item_by items k x q in
-    let size = ap (λ (y : Item). y.size) same in
-    let w : offset < x.size = omega (arith, within, size) in
-    three (is_code_of i x.part) (offset % 2 == 0) (nat_lt offset x.size) (by_code i x.part (ap (λ (y : Item). y.part) (sym same) ∙ code)) (grind (arith, nat_tests)) (grind (arith, nat_tests))
-
 is_entry_by : (items : List Item) (i : ℕ) (m : Option Meaning) → IsEntryPlace items i m → is_module_entry items i m ≡ true
-is_entry_by items i m h = ap (is_module_entry items i) h.place ∙ item_in items i h.item h.offset (slice_get items h.item) refl h.code h.even h.within
+is_entry_by items i m h =
+    let x = h.section in
+    let even = h.even in
+    let within = h.within in
+    ap (is_module_entry items i) h.place ∙ (ap (is_entry_in i h.offset) h.listed
+    ∙ three (is_code_of i x.part) (h.offset % 2 == 0) (nat_lt h.offset x.size) (by_code i x.part h.code) (grind (arith, nat_tests)) (grind (arith, nat_tests)))
 
 entries : (names : List ℕ → Option Meaning) (items : List Item) (ms : List ModuleValue) →
     elsewhere names items ms ≡ None → EntriesStand names items ms
 unfolding elsewhere
-entries names items ms e = λ i d l k name m.
-    let x = get_or ms i d in
-    entry_of items i (names (get_or x.entries k name)) (not_true _ (refused_not _ _ (at_none (elsewhere_at names items i) x.entries (at_none (elsewhere_in names items) ms e i d l) k name m)))
+entries names items ms e = λ i x g k name m.
+    entry_of items i (names (get_or x.entries k name)) (not_true _ (refused_not _ _ (at_none (elsewhere_at names items i) x.entries (found_none (elsewhere_in names items) ms e i x g) k name m)))
 
 not_elsewhere : (names : List ℕ → Option Meaning) (items : List Item) (ms : List ModuleValue) →
     EntriesStand names items ms → elsewhere names items ms ≡ None
 unfolding elsewhere
-not_elsewhere names items ms h = none_at (elsewhere_in names items) ms (λ i d l.
-    let x = get_or ms i d in
-    none_at (elsewhere_at names items i) x.entries (λ k name m. not_refused _ _ (is_not _ (is_entry_by items i (names (get_or x.entries k name)) (h i d l k name m)))))
+not_elsewhere names items ms h = none_found (elsewhere_in names items) ms (λ i x g.
+    none_at (elsewhere_at names items i) x.entries (λ k name m. not_refused _ _ (is_not _ (is_entry_by items i (names (get_or x.entries k name)) (h i x g k name m)))))
 
 stands_if : (items : List Item) (i : ℕ) (m : Option Meaning) → IsEntryPlace items i m → is_none m ≡ false
 stands_if items i m h = ap is_none h.place
@@ -252,9 +235,8 @@ stands_if items i m h = ap is_none h.place
 no_entry_if : (names : List ℕ → Option Meaning) (items : List Item) (ms : List ModuleValue) →
     EntriesStand names items ms → no_entry names ms ≡ None
 unfolding no_entry
-no_entry_if names items ms h = none_at (no_entry_in names) ms (λ i d l.
-    let x = get_or ms i d in
-    none_at (no_entry_at names i) x.entries (λ k name m. not_refused _ _ (stands_if items i (names (get_or x.entries k name)) (h i d l k name m))))
+no_entry_if names items ms h = none_found (no_entry_in names) ms (λ i x g.
+    none_at (no_entry_at names i) x.entries (λ k name m. not_refused _ _ (stands_if items i (names (get_or x.entries k name)) (h i x g k name m))))
 
 -- ---- regions
 
@@ -266,12 +248,12 @@ unfolding overfull
 contents layout end e =
     let a = both_none _ _ e in
     let b = both_none _ _ a.1 in
-    let each = at_none (overfull_in end) layout.modules b.1 in
+    let each = found_none (overfull_in end) layout.modules b.1 in
     record {
       text = not_over region.Text layout.text (end 0) a.0;
       ram = not_over region.Data layout.ram (end 1) b.0;
-      module_text = λ i d l. let m = get_or layout.modules i d in not_over (region.ModuleText i) m.text (text_of end i m).end (both_none _ _ (each i d l)).0;
-      module_ram = λ i d l. let m = get_or layout.modules i d in not_over (region.ModuleData i) m.ram (ram_of end i m).end (both_none _ _ (each i d l)).1;
+      module_text = λ i m g. not_over (region.ModuleText i) m.text (text_of end i m).end (both_none _ _ (each i m g)).0;
+      module_ram = λ i m g. not_over (region.ModuleData i) m.ram (ram_of end i m).end (both_none _ _ (each i m g)).1;
     }
 
 not_overfull : (layout : LayoutValue) (end : ℕ → ℕ) → ContentsFit layout end → overfull layout end ≡ None
@@ -279,9 +261,8 @@ unfolding overfull
 not_overfull layout end h =
     or_none _ _ (fits region.Text layout.text (end 0) h.text)
     (or_none _ _ (fits region.Data layout.ram (end 1) h.ram)
-    (none_at (overfull_in end) layout.modules (λ i d l.
-    let m = get_or layout.modules i d in
-    or_none _ _ (fits (region.ModuleText i) m.text (text_of end i m).end (h.module_text i d l)) (fits (region.ModuleData i) m.ram (ram_of end i m).end (h.module_ram i d l)))))
+    (none_found (overfull_in end) layout.modules (λ i m g.
+    or_none _ _ (fits (region.ModuleText i) m.text (text_of end i m).end (h.module_text i m g)) (fits (region.ModuleData i) m.ram (ram_of end i m).end (h.module_ram i m g)))))
 
 -- ---- relocations
 

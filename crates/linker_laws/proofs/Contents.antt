@@ -25,7 +25,7 @@ use Rattle.link_symbols.specs.declared.item.Part.{Part}
 use Rattle.link_symbols.specs.Passes.{NumberedObject, numbered_objects, part, fold_at}
 use Rattle.link_symbols.specs.Parts.{is_loaded_head, item_of, part_of}
 use Rattle.link_symbols.specs.Resolved.{items_of}
-use Rattle.linker.specs.Placement.{item_at, starts_of, address_at, module_stub_size, text_of}
+use Rattle.linker.specs.Placement.{starts_of, address_at, module_stub_size, text_of}
 use Rattle.linker.specs.Numbers.{Linking, linking_of, numbers_in, region_end}
 use Rattle.linker.specs.Bytes.{memory_part, word_bytes}
 use Rattle.linker.specs.Sections.{put_sections}
@@ -33,19 +33,18 @@ use Rattle.linker.specs.Fields.{put_fields, target_address, symbol_sum}
 use Rattle.linker.specs.Stubs.{word_named, stub_of, put_stub, put_vector}
 use Rattle.linker.specs.Image.{Links, blank_memory, memory_by}
 use Rattle.linker.specs.Refusals.{link_fault_of}
-use Rattle.linker.proofs.BoundLemmas.{all_low}
 use Rattle.linker.proofs.ClearLemmas.{zero_at, stub_size_is}
 use Rattle.linker.proofs.FitLemmas.{item_size, some_head}
 use Rattle.linker.proofs.LinkedLemmas.{memory_is, none_over}
-use Rattle.linker.proofs.PlaceLemmas.{in_region, part_by}
+use Rattle.linker.proofs.PlaceLemmas.{Goes}
 use Rattle.linker.proofs.RegionLemmas.{items_are_in, ends_kept}
 use Rattle.linker_laws.specs.Places.{Piece, an_item, a_stub, a_stack, the_vectors, span, stub_lies, vectors_lie}
 use Rattle.linker_laws.specs.Contents.{IsLoaded, section_address, field_span, SectionBytes, FieldNumbers, StubBytes, TableWords, VectorWords, IsGiven, by_section, by_stub, by_vector, ZeroElsewhere}
 use Rattle.linker_laws.proofs.Conditions.{can_link}
 use Rattle.linker_laws.proofs.FieldBytes as fields
 use Rattle.linker_laws.proofs.Numbered.{later, one_of, section_item}
-use Rattle.linker_laws.proofs.Places.{ranked_at, lies_at, lie_apart, lies_inside}
-use Rattle.linker.proofs.TurnLemmas.{in_list, item_high}
+use Rattle.linker_laws.proofs.Places.{goes_at, lies_at, lie_apart, lies_inside}
+use Rattle.linker.proofs.TurnLemmas.{all_low, item_high}
 use Rattle.linker_laws.proofs.Searches.{got, gets}
 use Rattle.linker_laws.proofs.SectionBytes as sections
 use Rattle.linker_laws.proofs.SectionBytes.{Long}
@@ -105,42 +104,42 @@ module _ (layout : LayoutValue) (objects : List ObjectValue) (kept : IsLayout la
 
   -- ---- items
 
-  abbrev item_span : ℕ → Section
-  item_span k = span (address k) (item_at items k).size
+  abbrev item_span : ℕ → Item → Section
+  item_span k i = span (address k) i.size
 
-  item_below : (k : ℕ) (p : Part) → (item_at items k).part ≡ Some p → address k + (item_at items k).size ≤ 65504
-  item_below k p f =
-      let h = item_high (starts_of layout) items k p f (ranked_at layout objects kept (can_link layout objects e).contents_fit k p f) in
-      let r = in_region count (item_at items k).part p f (part_by items count k (items_are_in layout objects) (inl (in_list items k p f))) in
-      let b = over p.region r in
+  item_below : (k : ℕ) (i : Item) (p : Part) → Goes items k i p → address k + i.size ≤ 65504
+  item_below k i p g =
+      let r = goes_at layout objects k i p g in
+      let h = item_high (starts_of layout) items k i p g r.1 in
+      let b = over p.region r.0 in
       omega (arith, h, b)
 
   -- an address in one item is outside every other
-  item_away : (k j : ℕ) (p q : Part) (a : ℕ) → (item_at items k).part ≡ Some p → (item_at items j).part ≡ Some q →
-      k ≢ j → holds (item_span k) a ≡ true → Out (address j) (item_at items j).size a
-  item_away k j p q a f g ne h =
-      let x = lies_at layout objects k p f in let y = lies_at layout objects j q g in
-      apart_out (item_span k) (address j) (item_at items j).size a (lie_apart layout objects kept e (an_item k) (an_item j) _ _ _ _ x.1 y.1 (λ z. ne (item_same k j z))) h
+  item_away : (k j : ℕ) (x y : Item) (p q : Part) (a : ℕ) → Goes items k x p → Goes items j y q → k ≢ j →
+      holds (item_span k x) a ≡ true → Out (address j) y.size a
+  item_away k j x y p q a f g ne h =
+      let u = lies_at layout objects k x p f in let v = lies_at layout objects j y q g in
+      apart_out (item_span k x) (address j) y.size a (lie_apart layout objects kept e (an_item k x) (an_item j y) _ _ _ _ u.1 v.1 (λ z. ne (ap index z))) h
     where
       index : Piece → ℕ
-      index (an_item k) = k
+      index (an_item k i) = k
       index (a_stub k) = 0
       index (a_stack k) = 0
       index the_vectors = 0
-
-      item_same : (k j : ℕ) → an_item k ≡ an_item j → k ≡ j
-      item_same k j z = ap index z
 
   -- ---- loaded sections
 
   abbrev size : SectionHead → ℕ
   size s = s.bytes.end - s.bytes.start
 
+  abbrev own_item : NumberedObject → SectionHead → Item
+  own_item x s = item_of layout.modules x.object s
+
   -- the item of a loaded section, which has room for its bytes
   record Spot (x : NumberedObject) (k : ℕ) (s : SectionHead) : Type 0 where
     region : Part
-    goes : (item_at items (x.first + k)).part ≡ Some region
-    room : size s ≤ (item_at items (x.first + k)).size
+    goes : Goes items (x.first + k) (own_item x s) region
+    room : size s ≤ (own_item x s).size
     ordered : s.bytes.start ≤ s.bytes.end
     inside_file : s.bytes.end ≤ length x.object.file
 
@@ -148,20 +147,20 @@ module _ (layout : LayoutValue) (objects : List ObjectValue) (kept : IsLayout la
   spot_of x k s h =
       let g = got x.object.sections k s h.section in
       let o = got xs h.number x h.object in
-      let item = section_item layout objects h.number k x s h.object g.0 ∙ ap (item_of layout.modules x.object) (g.1 s) in
+      let item = section_item layout objects h.number k x s h.object g.0 ∙ ap (λ (t : SectionHead). Some (own_item x t)) (g.1 s) in
       let placed = subst (λ (t : SectionHead). is_loaded_head t ≡ true → part_of layout.modules (part x.object t.name) t ≢ None) (g.1 s)
       (subst (λ (y : NumberedObject). (j : ℕ) (d : SectionHead) → j < length y.object.sections → is_loaded_head (get_or y.object.sections j d) ≡ true → part_of layout.modules (part y.object (get_or y.object.sections j d).name) (get_or y.object.sections j d) ≢ None) (o.1 x)
       ((can_link layout objects e).sections_placed h.number x o.0) k s g.0) in
-      let some = some_part (is_loaded_head s) (part_of layout.modules (part x.object s.name) s) (item_at items (x.first + k)).part h.loaded (placed h.loaded) (ap (λ (i : Item). i.part) item ∙ part_of_item layout.modules x.object s) in
+      let some = some_part (is_loaded_head s) (part_of layout.modules (part x.object s.name) s) (own_item x s).part h.loaded (placed h.loaded) (part_of_item layout.modules x.object s) in
       let is = one_of IsObject objects h.number x are h.object in
       let sec = all_sections x.object is k s g.0 in
-      let sized = ap (λ (i : Item). i.size) item ∙ item_size layout.modules x.object s in
+      let sized = item_size layout.modules x.object s in
       let same = g.1 s in
       let b = sec.sized in let c = sec.bytes.ordered in let d = sec.bytes.within in
       let b1 = ap (λ (t : SectionHead). t.bytes.end) same in
       let b2 = ap (λ (t : SectionHead). t.bytes.start) same in
       let b3 = ap (λ (t : SectionHead). t.size) same in
-      record { region = some.0; goes = some.1; room = omega (arith, b, b1, b2, b3, sized); ordered = omega (arith, c, b1, b2); inside_file = omega (arith, d, b1) }
+      record { region = some.0; goes = (item, some.1); room = omega (arith, b, b1, b2, b3, sized); ordered = omega (arith, c, b1, b2); inside_file = omega (arith, d, b1) }
 
   loaded_at : (n k : ℕ) (d : NumberedObject) (f : SectionHead) → n < length xs →
       k < length (get_or xs n d).object.sections →
@@ -171,16 +170,16 @@ module _ (layout : LayoutValue) (objects : List ObjectValue) (kept : IsLayout la
 
   -- an address among a loaded section's bytes is in its item
   among_item : (x : NumberedObject) (k : ℕ) (s : SectionHead) (n : ℕ) → IsLoaded objects x k s → n < size s →
-      holds (item_span (x.first + k)) (address (x.first + k) + n) ≡ true
-  among_item x k s n h b = let r = (spot_of x k s h).room in among (address (x.first + k)) (item_at items (x.first + k)).size n (omega (arith, r, b))
+      holds (item_span (x.first + k) (own_item x s)) (address (x.first + k) + n) ≡ true
+  among_item x k s n h b = let r = (spot_of x k s h).room in among (address (x.first + k)) (own_item x s).size n (omega (arith, r, b))
 
   -- and outside every other loaded section
   section_away : (x y : NumberedObject) (k j : ℕ) (s t : SectionHead) (a : ℕ) → IsLoaded objects x k s →
-      IsLoaded objects y j t → x.first + k ≢ y.first + j → holds (item_span (x.first + k)) a ≡ true →
+      IsLoaded objects y j t → x.first + k ≢ y.first + j → holds (item_span (x.first + k) (own_item x s)) a ≡ true →
       Out (address (y.first + j)) (size t) a
   section_away x y k j s t a h g ne b =
       let p = spot_of x k s h in let q = spot_of y j t g in
-      out_less (address (y.first + j)) (item_at items (y.first + j)).size (size t) a q.room (item_away (x.first + k) (y.first + j) p.region q.region a p.goes q.goes ne b)
+      out_less (address (y.first + j)) (own_item y t).size (size t) a q.room (item_away (x.first + k) (y.first + j) (own_item x s) (own_item y t) p.region q.region a p.goes q.goes ne b)
 
   -- ---- relocations
 
@@ -202,7 +201,7 @@ module _ (layout : LayoutValue) (objects : List ObjectValue) (kept : IsLayout la
       let t = target_loaded n j x r (gets xs n d h) b in
       let s = spot_of x (get_or x.object.relocations j r).target t.0 t.1 in
       let room = s.room in
-      let below = item_below (x.first + (get_or x.object.relocations j r).target) s.region s.goes in
+      let below = item_below (x.first + (get_or x.object.relocations j r).target) (own_item x t.0) s.region s.goes in
       let found = t.1.section in
       record { section = t.0; found = found; fits = omega (arith, room, below); applies = (can_link layout objects e).relocations_apply n d h j r b t.0 found }
 
@@ -269,21 +268,21 @@ module _ (layout : LayoutValue) (objects : List ObjectValue) (kept : IsLayout la
   words_keep a stubs vectors = words.vectors_keep l with_stubs layout.vectors a kept.vectors_kept.below_16 stubs_long vectors ∙ words.stubs_keep l end with_fields 0 layout.modules a starts_low fields_long stubs
 
   -- an address in an item is outside stubs and vectors
-  item_stubs : (k : ℕ) (p : Part) (a : ℕ) → (item_at items k).part ≡ Some p → holds (item_span k) a ≡ true →
+  item_stubs : (k : ℕ) (x : Item) (p : Part) (a : ℕ) → Goes items k x p → holds (item_span k x) a ≡ true →
       All (λ m. Out m.text.start (module_stub_size m) a) layout.modules
-  item_stubs k p a f h i d b =
+  item_stubs k x p a f h i d b =
       let m = get_or layout.modules i d in
-      let x = lies_at layout objects k p f in
-      apart_out (item_span k) m.text.start (module_stub_size m) a (lie_apart layout objects kept e (an_item k) (a_stub i) _ _ _ _ x.1 (stub_lies i m (gets layout.modules i d b)) (λ z. let c : an_item k ≡ a_stub i = z in cc)) h
+      let u = lies_at layout objects k x p f in
+      apart_out (item_span k x) m.text.start (module_stub_size m) a (lie_apart layout objects kept e (an_item k x) (a_stub i) _ _ _ _ u.1 (stub_lies i m (gets layout.modules i d b)) (λ z. let c : an_item k x ≡ a_stub i = z in cc)) h
 
-  item_vectors : (k : ℕ) (p : Part) (a : ℕ) → (item_at items k).part ≡ Some p → holds (item_span k) a ≡ true →
+  item_vectors : (k : ℕ) (x : Item) (p : Part) (a : ℕ) → Goes items k x p → holds (item_span k x) a ≡ true →
       All (λ v. Out (words.start l v) 2 a) layout.vectors
-  item_vectors k p a f h i d b =
+  item_vectors k x p a f h i d b =
       let v = get_or layout.vectors i d in
-      let x = lies_at layout objects k p f in
+      let u = lies_at layout objects k x p f in
       let low_v = kept.vectors_kept.below_16 i d b in
       out_within 65504 32 (words.start l v) 2 a (omega arith) (omega (arith, low_v))
-      (apart_out (item_span k) 65504 32 a (lie_apart layout objects kept e (an_item k) the_vectors _ _ _ _ x.1 vectors_lie (λ z. let c : an_item k ≡ the_vectors = z in cc)) h)
+      (apart_out (item_span k x) 65504 32 a (lie_apart layout objects kept e (an_item k x) the_vectors _ _ _ _ u.1 vectors_lie (λ z. let c : an_item k x ≡ the_vectors = z in cc)) h)
 
   -- ---- sections
 
@@ -321,7 +320,7 @@ module _ (layout : LayoutValue) (objects : List ObjectValue) (kept : IsLayout la
       let a : ℕ = address (x.first + k) + n in
       let p = spot_of x k s h in
       let held = among_item x k s n h (omega arith) in
-      words_keep a (item_stubs (x.first + k) p.region a p.goes held) (item_vectors (x.first + k) p.region a p.goes held)
+      words_keep a (item_stubs (x.first + k) (own_item x s) p.region a p.goes held) (item_vectors (x.first + k) (own_item x s) p.region a p.goes held)
       ∙ (fields.objects_keep l low xs with_sections a sections_long good (λ i d f. by i d f (cases_lt i h.number) (cases_lt h.number i))
       ∙ section_put x k s n h (omega arith))
     where
@@ -350,7 +349,7 @@ module _ (layout : LayoutValue) (objects : List ObjectValue) (kept : IsLayout la
       ((i : ℕ) (q : Relocation) → j < i → slice_get x.object.relocations i ≡ Some q → ShareNoByte (field_span layout objects x r) (field_span layout objects x q)) →
       fields.IsSet l low x r whole
   field_numbers n j x r f g apart =
-      fields.still_set l low x r with_fields whole (λ k b. words_keep (place k) (item_stubs item region (place k) goes (held k b)) (item_vectors item region (place k) goes (held k b)))
+      fields.still_set l low x r with_fields whole (λ k b. words_keep (place k) (item_stubs item (own_item x s) region (place k) goes (held k b)) (item_vectors item (own_item x s) region (place k) goes (held k b)))
       (fields.objects_set l low xs with_sections n j x r sections_long good o.0 o.1 c.0 c.1
       (λ k b i d h w. apart_out (field_span layout objects x r) (address (x.first + (get_or x.object.relocations i d).target) + (get_or x.object.relocations i d).offset) (row_size (row_of (get_or x.object.relocations i d).kind)) (place k)
       (apart i (get_or x.object.relocations i d) h (gets x.object.relocations i d w)) (among (address (x.first + r.target) + r.offset) (row_size (row_of r.kind)) k b))
@@ -380,7 +379,7 @@ module _ (layout : LayoutValue) (objects : List ObjectValue) (kept : IsLayout la
       region : Part
       region = (spot_of x r.target s loaded).region
 
-      goes : (item_at items item).part ≡ Some region
+      goes : Goes items item (own_item x s) region
       goes = (spot_of x r.target s loaded).goes
 
       place : ℕ → ℕ
@@ -393,12 +392,12 @@ module _ (layout : LayoutValue) (objects : List ObjectValue) (kept : IsLayout la
       within w offset room k (inl z) h = absurd (omega (arith, z, h))
       within w offset room k (inr b) h = omega (arith, b, h)
 
-      held : (k : ℕ) → k < row_size (row_of r.kind) → holds (item_span item) (place k) ≡ true
+      held : (k : ℕ) → k < row_size (row_of r.kind) → holds (item_span item (own_item x s)) (place k) ≡ true
       held k b =
           let w = within (row_size (row_of r.kind)) r.offset (size applies.section) k (width_within r.kind (fields.place l low x r) (fields.sum l low x r) r.offset (size applies.section) applies.applies) b in
           let q : size applies.section ≡ size s = ap size (sym ((got x.object.sections r.target applies.section applies.found).1 s) ∙ section.1 s) in
           let z : address (x.first + r.target) + r.offset + k ≡ address (x.first + r.target) + (r.offset + k) = omega arith in
-          ap (holds (item_span item)) z ∙ among_item x r.target s (r.offset + k) loaded (omega (arith, w, q))
+          ap (holds (item_span item (own_item x s))) z ∙ among_item x r.target s (r.offset + k) loaded (omega (arith, w, q))
 
   -- ---- stubs
 
@@ -422,7 +421,7 @@ module _ (layout : LayoutValue) (objects : List ObjectValue) (kept : IsLayout la
       held = among m.text.start (module_stub_size m) n b
 
       index : Piece → ℕ
-      index (an_item k) = 0
+      index (an_item k i) = 0
       index (a_stub k) = k
       index (a_stack k) = 0
       index the_vectors = 0

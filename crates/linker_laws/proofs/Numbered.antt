@@ -12,7 +12,6 @@ use Rattle.link_symbols.specs.Parts.{items_in, section_items, item_of}
 use Rattle.link_symbols.specs.Commons.{commons_of, common_item}
 use Rattle.link_symbols.specs.Symbols.{named_symbols}
 use Rattle.link_symbols.specs.Resolved.{items_of}
-use Rattle.linker.specs.Placement.{item_at}
 use Rattle.linker.proofs.FitLemmas.{item_here}
 
 first_from : (os : List ObjectValue) (number first k : ℕ) (y : NumberedObject) →
@@ -51,26 +50,26 @@ one_of P os n x h e = one_from P os 0 0 n x h e
 
 item_from : (modules : List ModuleValue) (os : List ObjectValue) (number : ℕ) (front commons : List Item) (n k : ℕ) (x : NumberedObject) (d : SectionHead) →
     slice_get (numbered_objects_from number (length front) os) n ≡ Some x → k < length x.object.sections →
-    item_at (front ++ (section_items modules os ++ commons)) (x.first + k) ≡ item_of modules x.object (get_or x.object.sections k d)
+    slice_get (front ++ (section_items modules os ++ commons)) (x.first + k) ≡ Some (item_of modules x.object (get_or x.object.sections k d))
 item_from modules [] number front commons n k x d e l = cc
 item_from modules (o ∷ os) number front commons zero k x d e l =
     let same = same_Some _ _ e in
     let b = subst (λ (y : NumberedObject). k < length y.object.sections) (sym same) l in
     let q = append_assoc (items_in modules o) (section_items modules os) commons in
-    ap (λ (r : List Item). item_at (front ++ r) (x.first + k)) q
-    ∙ (ap (λ (y : NumberedObject). item_at (front ++ (items_in modules o ++ (section_items modules os ++ commons))) (y.first + k)) (sym same)
+    ap (λ (r : List Item). slice_get (front ++ r) (x.first + k)) q
+    ∙ (ap (λ (y : NumberedObject). slice_get (front ++ (items_in modules o ++ (section_items modules os ++ commons))) (y.first + k)) (sym same)
     ∙ (item_here modules o front (section_items modules os ++ commons) k d b
-    ∙ ap (λ (y : NumberedObject). item_of modules y.object (get_or y.object.sections k d)) same))
+    ∙ ap (λ (y : NumberedObject). Some (item_of modules y.object (get_or y.object.sections k d))) same))
 item_from modules (o ∷ os) number front commons (suc n) k x d e l =
     let c : length (items_in modules o) ≡ length o.sections = length-map o.sections _ in
     let size : length (front ++ items_in modules o) ≡ length front + length o.sections = length-append front (items_in modules o) ∙ ap (λ (m : ℕ). length front + m) c in
     let q = append_assoc (items_in modules o) (section_items modules os) commons in
-    ap (λ (r : List Item). item_at (front ++ r) (x.first + k)) q
-    ∙ (ap (λ (r : List Item). item_at r (x.first + k)) (sym (append_assoc front (items_in modules o) (section_items modules os ++ commons)))
+    ap (λ (r : List Item). slice_get (front ++ r) (x.first + k)) q
+    ∙ (ap (λ (r : List Item). slice_get r (x.first + k)) (sym (append_assoc front (items_in modules o) (section_items modules os ++ commons)))
     ∙ item_from modules os (number + 1) (front ++ items_in modules o) commons n k x d (ap (λ (m : ℕ). slice_get (numbered_objects_from (number + 1) m os) n) size ∙ e) l)
 
 -- the item that a section of an object is
 pub section_item : (layout : LayoutValue) (os : List ObjectValue) (n k : ℕ) (x : NumberedObject) (d : SectionHead) →
     slice_get (numbered_objects os) n ≡ Some x → k < length x.object.sections →
-    item_at (items_of layout os) (x.first + k) ≡ item_of layout.modules x.object (get_or x.object.sections k d)
+    slice_get (items_of layout os) (x.first + k) ≡ Some (item_of layout.modules x.object (get_or x.object.sections k d))
 section_item layout os n k x d e l = item_from layout.modules os 0 [] (map common_item (commons_of (named_symbols os))) n k x d e l

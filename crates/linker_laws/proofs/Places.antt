@@ -13,14 +13,14 @@ use Rattle.layout_file.specs.Values.{ModuleValue, LayoutValue, regions, regions_
 use Rattle.link_symbols.specs.declared.item.Item.{Item}
 use Rattle.link_symbols.specs.declared.item.Part.{Part}
 use Rattle.link_symbols.specs.Resolved.{items_of}
-use Rattle.linker.specs.Placement.{item_at, starts_of, address_at, module_stub_size, round_up}
+use Rattle.linker.specs.Placement.{starts_of, address_at, module_stub_size, round_up}
 use Rattle.linker.specs.Numbers.{region_end}
 use Rattle.linker.proofs.BoundLemmas.{round_up_above, region_by}
 use Rattle.linker.proofs.FitLemmas.{text_starts, ram_starts, first_two}
 use Rattle.linker.proofs.TableLemmas.{regions_count}
-use Rattle.linker.proofs.PlaceLemmas.{part_by, ranked, in_region, some_not}
+use Rattle.linker.proofs.PlaceLemmas.{Goes, goes_in, own_is, some_not}
 use Rattle.linker.proofs.RegionLemmas.{items_are_in}
-use Rattle.linker.proofs.TurnLemmas.{in_list, item_low, item_high, in_turn, room_for, aligned}
+use Rattle.linker.proofs.TurnLemmas.{item_low, item_high, in_turn, room_for, aligned}
 use Rattle.linker_laws.specs.Conditions.{ContentsFit}
 use Rattle.linker_laws.specs.Places.{Piece, an_item, a_stub, a_stack, span, Lies, item_lies, stub_lies, stack_lies, vectors_lie, ItemsLie, IsInside, LiesInside, LieApart, LiesAligned}
 use Rattle.linker_laws.proofs.Conditions.{can_link}
@@ -86,32 +86,37 @@ pub record Bounded (layout : LayoutValue) (objects : List ObjectValue) (n : ℕ)
   pub below : r.end ≤ 65504
   pub above : 512 ≤ r.start
 
+pub goes_at : (layout : LayoutValue) (objects : List ObjectValue) (k : ℕ) (i : Item) (p : Part) → Goes (items_of layout objects) k i p →
+    (p.region < 2 + 2 * length layout.modules) × (p.rank < 3)
+goes_at layout objects k i p g =
+    goes_in (items_of layout objects) (2 + 2 * length layout.modules) k p (items_are_in layout objects) (own_is (items_of layout objects) k i p g)
+
 module _ (layout : LayoutValue) (objects : List ObjectValue) (s : IsLayout layout) (fit : ContentsFit layout (region_end layout objects)) where
   pub text_bounded : (i : ℕ) (m : ModuleValue) → slice_get layout.modules i ≡ Some m →
       Bounded layout objects (2 + 2 * i) m.text
   text_bounded i m e =
       let g = got layout.modules i m e in
       let b = text_start layout i m e in
-      let h : round_up 2 (region_end layout objects (2 + 2 * i)) ≤ (get_or layout.modules i m).text.end = fit.module_text i m g.0 in
+      let h : round_up 2 (region_end layout objects (2 + 2 * i)) ≤ m.text.end = fit.module_text i m e in
       let t = ap (λ (x : ModuleValue). x.text.end) (g.1 m) in
       let f = ap (λ (x : ModuleValue). x.text.start) (g.1 m) in
       let u = round_up_above 2 (region_end layout objects (2 + 2 * i)) (omega arith) in
       let k = (s.modules_kept i m g.0).text_region in
       let v = k.below_vectors in let w = k.above_devices in
-      record { low = omega (arith, b); high = omega (arith, h, t, u); below = omega (arith, v, t); above = omega (arith, w, f) }
+      record { low = omega (arith, b); high = omega (arith, h, u); below = omega (arith, v, t); above = omega (arith, w, f) }
 
   ram_bounded : (i : ℕ) (m : ModuleValue) → slice_get layout.modules i ≡ Some m →
       Bounded layout objects (3 + 2 * i) m.ram
   ram_bounded i m e =
       let g = got layout.modules i m e in
       let b = ram_start layout i m e in
-      let h : round_up 2 (region_end layout objects (3 + 2 * i)) ≤ (get_or layout.modules i m).ram.end = fit.module_ram i m g.0 in
+      let h : round_up 2 (region_end layout objects (3 + 2 * i)) ≤ m.ram.end = fit.module_ram i m e in
       let t = ap (λ (x : ModuleValue). x.ram.end) (g.1 m) in
       let f = ap (λ (x : ModuleValue). x.ram.start) (g.1 m) in
       let u = round_up_above 2 (region_end layout objects (3 + 2 * i)) (omega arith) in
       let k = (s.modules_kept i m g.0).ram_region in
       let v = k.below_vectors in let w = k.above_devices in
-      record { low = omega (arith, b); high = omega (arith, h, t, u); below = omega (arith, v, t); above = omega (arith, w, f) }
+      record { low = omega (arith, b); high = omega (arith, h, u); below = omega (arith, v, t); above = omega (arith, w, f) }
 
   first_bounded : Bounded layout objects 0 layout.text
   first_bounded = let b = (first_two layout).0 in let k = s.text_region in record { low = omega (arith, b); high = fit.text; below = k.below_vectors; above = k.above_devices }
@@ -158,16 +163,13 @@ module _ (layout : LayoutValue) (objects : List ObjectValue) (s : IsLayout layou
   abbrev pub starts : List ℕ
   starts = starts_of layout
 
-  pub ranked_at : (k : ℕ) (p : Part) → (item_at items k).part ≡ Some p → p.rank < 3
-  ranked_at k p e = ranked (2 + 2 * length layout.modules) (item_at items k).part p e (part_by items (2 + 2 * length layout.modules) k (items_are_in layout objects) (inl (in_list items k p e)))
-
-  item_sits : (k : ℕ) (p : Part) (r : Section) → (item_at items k).part ≡ Some p →
-      region_at layout p.region ≡ Some r → Sits p.region (span (address_at starts items k) (item_at items k).size) r
-  item_sits k p r e f =
+  item_sits : (k : ℕ) (i : Item) (p : Part) (r : Section) → Goes items k i p → region_at layout p.region ≡ Some r →
+      Sits p.region (span (address_at starts items k) i.size) r
+  item_sits k i p r g f =
       let b = bounded p.region r f in
       let u = b.low in let v = b.high in
-      let l = item_low starts items k p e in
-      let h = item_high starts items k p e (ranked_at k p e) in
+      let l = item_low starts items k i p g in
+      let h = item_high starts items k i p g (goes_at layout objects k i p g).1 in
       record { region = f; inside = record { start = omega (arith, u, l); end = omega (arith, v, h) } }
 
   pub stub_sits : (i : ℕ) (m : ModuleValue) → slice_get layout.modules i ≡ Some m →
@@ -187,7 +189,7 @@ module _ (layout : LayoutValue) (objects : List ObjectValue) (s : IsLayout layou
       record { region = ram_region layout i ∙ ap ram_in e; inside = record { start = omega arith; end = omega (arith, h, b, u) } }
 
   pub inside : (p : Piece) (t r : Section) → Lies layout objects p t r → IsInside t r
-  inside p t r (item_lies k q x e f) = (item_sits k q x e f).inside
+  inside p t r (item_lies k i q x e f g) = (item_sits k i q x (e, f) g).inside
   inside p t r (stub_lies i m e) = (stub_sits i m e).inside
   inside p t r (stack_lies i m e) = (stack_sits i m e).inside
   inside p t r vectors_lie = record { start = omega arith; end = omega arith }
@@ -215,31 +217,33 @@ module _ (layout : LayoutValue) (objects : List ObjectValue) (s : IsLayout layou
   one_or t u (inl h) = one_before t u h
   one_or t u (inr h) = turn u t (one_before u t h)
 
-  abbrev item_span : ℕ → Section
-  item_span k = span (address_at starts items k) (item_at items k).size
+  abbrev item_span : ℕ → Item → Section
+  item_span k i = span (address_at starts items k) i.size
 
-  two_items : (k j : ℕ) (p q : Part) (a b : Section) → (item_at items k).part ≡ Some p →
-      region_at layout p.region ≡ Some a → (item_at items j).part ≡ Some q → region_at layout q.region ≡ Some b →
-      k ≢ j → (p.region ≡ q.region) ⊎ (p.region ≢ q.region) →
-      ShareNoByte (item_span k) (item_span j)
-  two_items k j p q a b e f g h ne (inl r) = one_or (item_span k) (item_span j) (in_turn starts items k j p q e g ne r)
-  two_items k j p q a b e f g h ne (inr r) = away p.region q.region (item_span k) (item_span j) a b (item_sits k p a e f) (item_sits j q b g h) r
+  two_items : (k j : ℕ) (x y : Item) (p q : Part) (a b : Section) → Goes items k x p → region_at layout p.region ≡ Some a →
+      Goes items j y q → region_at layout q.region ≡ Some b → k ≢ j → (p.region ≡ q.region) ⊎ (p.region ≢ q.region) →
+      ShareNoByte (item_span k x) (item_span j y)
+  two_items k j x y p q a b e f g h ne (inl r) = one_or (item_span k x) (item_span j y) (in_turn starts items k j x y p q e g ne r)
+  two_items k j x y p q a b e f g h ne (inr r) = away p.region q.region (item_span k x) (item_span j y) a b (item_sits k x p a e f) (item_sits j y q b g h) r
 
-  item_stub : (k i : ℕ) (p : Part) (a : Section) (m : ModuleValue) → (item_at items k).part ≡ Some p →
+  item_stub : (k i : ℕ) (x : Item) (p : Part) (a : Section) (m : ModuleValue) → Goes items k x p →
       region_at layout p.region ≡ Some a → slice_get layout.modules i ≡ Some m →
-      (p.region ≡ 2 + 2 * i) ⊎ (p.region ≢ 2 + 2 * i) → ShareNoByte (item_span k) (span m.text.start (module_stub_size m))
-  item_stub k i p a m e f g (inl r) =
-      let l = item_low starts items k p e in let t = ap (slice_index starts) r in let b = text_start layout i m g in
-      turn _ _ (one_before (span m.text.start (module_stub_size m)) (item_span k) (omega (arith, l, t, b)))
-  item_stub k i p a m e f g (inr r) = away p.region (2 + 2 * i) _ _ a m.text (item_sits k p a e f) (stub_sits i m g) r
+      (p.region ≡ 2 + 2 * i) ⊎ (p.region ≢ 2 + 2 * i) → ShareNoByte (item_span k x) (span m.text.start (module_stub_size m))
+  item_stub k i x p a m e f g (inl r) =
+      let l = item_low starts items k x p e in let t = ap (slice_index starts) r in let b = text_start layout i m g in
+      turn _ _ (one_before (span m.text.start (module_stub_size m)) (item_span k x) (omega (arith, l, t, b)))
+  item_stub k i x p a m e f g (inr r) = away p.region (2 + 2 * i) _ _ a m.text (item_sits k x p a e f) (stub_sits i m g) r
 
-  item_stack : (k i : ℕ) (p : Part) (a : Section) (m : ModuleValue) → (item_at items k).part ≡ Some p →
+  item_stack : (k i : ℕ) (x : Item) (p : Part) (a : Section) (m : ModuleValue) → Goes items k x p →
       region_at layout p.region ≡ Some a → slice_get layout.modules i ≡ Some m →
-      (p.region ≡ 3 + 2 * i) ⊎ (p.region ≢ 3 + 2 * i) → ShareNoByte (item_span k) (span m.ram.start (4 + m.stack))
-  item_stack k i p a m e f g (inl r) =
-      let l = item_low starts items k p e in let t = ap (slice_index starts) r in let b = ram_start layout i m g in
-      turn _ _ (one_before (span m.ram.start (4 + m.stack)) (item_span k) (omega (arith, l, t, b)))
-  item_stack k i p a m e f g (inr r) = away p.region (3 + 2 * i) _ _ a m.ram (item_sits k p a e f) (stack_sits i m g) r
+      (p.region ≡ 3 + 2 * i) ⊎ (p.region ≢ 3 + 2 * i) → ShareNoByte (item_span k x) (span m.ram.start (4 + m.stack))
+  item_stack k i x p a m e f g (inl r) =
+      let l = item_low starts items k x p e in let t = ap (slice_index starts) r in let b = ram_start layout i m g in
+      turn _ _ (one_before (span m.ram.start (4 + m.stack)) (item_span k x) (omega (arith, l, t, b)))
+  item_stack k i x p a m e f g (inr r) = away p.region (3 + 2 * i) _ _ a m.ram (item_sits k x p a e f) (stack_sits i m g) r
+
+  one_item : (k j : ℕ) (x y : Item) → slice_get items k ≡ Some x → slice_get items j ≡ Some y → k ≡ j → an_item k x ≡ an_item j y
+  one_item k j x y e f z = ap (λ (n : ℕ). an_item n x) z ∙ ap (an_item j) (same_Some x y (sym e ∙ (ap (slice_get items) z ∙ f)))
 
   stub_stack : (i j : ℕ) (m o : ModuleValue) → slice_get layout.modules i ≡ Some m →
       slice_get layout.modules j ≡ Some o →
@@ -252,19 +256,19 @@ module _ (layout : LayoutValue) (objects : List ObjectValue) (s : IsLayout layou
 
   pub apart : (p q : Piece) (t u a b : Section) → Lies layout objects p t a → Lies layout objects q u b → p ≢ q →
       ShareNoByte t u
-  apart p q t u a b (item_lies k x r e f) (item_lies j y w g h) ne = two_items k j x y r w e f g h (λ z. ne (ap an_item z)) (cases_eq x.region y.region)
-  apart p q t u a b (item_lies k x r e f) (stub_lies i m g) ne = item_stub k i x r m e f g (cases_eq x.region (2 + 2 * i))
-  apart p q t u a b (item_lies k x r e f) (stack_lies i m g) ne = item_stack k i x r m e f g (cases_eq x.region (3 + 2 * i))
-  apart p q t u a b (item_lies k x r e f) vectors_lie ne = below_vectors x.region t r (item_sits k x r e f)
-  apart p q t u a b (stub_lies i m g) (item_lies k x r e f) ne = turn _ _ (item_stub k i x r m e f g (cases_eq x.region (2 + 2 * i)))
+  apart p q t u a b (item_lies k v x r d e f) (item_lies j n y w c g h) ne = two_items k j v n x y r w (d, e) f (c, g) h (λ z. ne (one_item k j v n d c z)) (cases_eq x.region y.region)
+  apart p q t u a b (item_lies k v x r d e f) (stub_lies i m g) ne = item_stub k i v x r m (d, e) f g (cases_eq x.region (2 + 2 * i))
+  apart p q t u a b (item_lies k v x r d e f) (stack_lies i m g) ne = item_stack k i v x r m (d, e) f g (cases_eq x.region (3 + 2 * i))
+  apart p q t u a b (item_lies k v x r d e f) vectors_lie ne = below_vectors x.region t r (item_sits k v x r (d, e) f)
+  apart p q t u a b (stub_lies i m g) (item_lies k v x r d e f) ne = turn _ _ (item_stub k i v x r m (d, e) f g (cases_eq x.region (2 + 2 * i)))
   apart p q t u a b (stub_lies i m e) (stub_lies j o f) ne = away (2 + 2 * i) (2 + 2 * j) _ _ m.text o.text (stub_sits i m e) (stub_sits j o f) (λ z. ne (ap a_stub (omega (arith, z))))
   apart p q t u a b (stub_lies i m e) (stack_lies j o f) ne = stub_stack i j m o e f
   apart p q t u a b (stub_lies i m e) vectors_lie ne = below_vectors (2 + 2 * i) t m.text (stub_sits i m e)
-  apart p q t u a b (stack_lies i m g) (item_lies k x r e f) ne = turn _ _ (item_stack k i x r m e f g (cases_eq x.region (3 + 2 * i)))
+  apart p q t u a b (stack_lies i m g) (item_lies k v x r d e f) ne = turn _ _ (item_stack k i v x r m (d, e) f g (cases_eq x.region (3 + 2 * i)))
   apart p q t u a b (stack_lies i m e) (stub_lies j o f) ne = turn _ _ (stub_stack j i o m f e)
   apart p q t u a b (stack_lies i m e) (stack_lies j o f) ne = away (3 + 2 * i) (3 + 2 * j) _ _ m.ram o.ram (stack_sits i m e) (stack_sits j o f) (λ z. ne (ap a_stack (omega (arith, z))))
   apart p q t u a b (stack_lies i m e) vectors_lie ne = below_vectors (3 + 2 * i) t m.ram (stack_sits i m e)
-  apart p q t u a b vectors_lie (item_lies k x r e f) ne = turn _ _ (below_vectors x.region u r (item_sits k x r e f))
+  apart p q t u a b vectors_lie (item_lies k v x r d e f) ne = turn _ _ (below_vectors x.region u r (item_sits k v x r (d, e) f))
   apart p q t u a b vectors_lie (stub_lies i m e) ne = turn _ _ (below_vectors (2 + 2 * i) u m.text (stub_sits i m e))
   apart p q t u a b vectors_lie (stack_lies i m e) ne = turn _ _ (below_vectors (3 + 2 * i) u m.ram (stack_sits i m e))
   apart p q t u a b vectors_lie vectors_lie ne = absurd (ne refl)
@@ -277,27 +281,24 @@ lies_inside layout objects s e = inside layout objects s (can_link layout object
 pub lie_apart : LieApart
 lie_apart layout objects s e = apart layout objects s (can_link layout objects e).contents_fit
 
-pub lies_at : (layout : LayoutValue) (objects : List ObjectValue) (k : ℕ) (p : Part) →
-    (item_at (items_of layout objects) k).part ≡ Some p →
-    (r : Section) × Lies layout objects (an_item k) (span (address_at (starts_of layout) (items_of layout objects) k) (item_at (items_of layout objects) k).size) r
-lies_at layout objects k p e =
+pub lies_at : (layout : LayoutValue) (objects : List ObjectValue) (k : ℕ) (i : Item) (p : Part) → Goes (items_of layout objects) k i p →
+    (r : Section) × Lies layout objects (an_item k i) (span (address_at (starts_of layout) (items_of layout objects) k) i.size) r
+lies_at layout objects k i p g =
     let all = regions layout.text layout.ram layout.modules in
-    let count = 2 + 2 * length layout.modules in
-    let l = in_region count (item_at (items_of layout objects) k).part p e (part_by (items_of layout objects) count k (items_are_in layout objects) (inl (in_list (items_of layout objects) k p e))) in
+    let l = (goes_at layout objects k i p g).0 in
     let n = regions_count layout.modules in
-    (get_or all p.region layout.text, item_lies k p (get_or all p.region layout.text) e (gets all p.region layout.text (omega (arith, l, n))))
+    (get_or all p.region layout.text, item_lies k i p (get_or all p.region layout.text) g.0 g.1 (gets all p.region layout.text (omega (arith, l, n))))
 
-lies_by : (layout : LayoutValue) (objects : List ObjectValue) (k : ℕ) (o : Option Part) →
-    (item_at (items_of layout objects) k).part ≡ o → o ≢ None →
-    (s : Section) × ((r : Section) × Lies layout objects (an_item k) s r)
-lies_by layout objects k None e h = absurd (h refl)
-lies_by layout objects k (Some p) e h = (_, lies_at layout objects k p e)
+lies_by : (layout : LayoutValue) (objects : List ObjectValue) (k : ℕ) (i : Item) → slice_get (items_of layout objects) k ≡ Some i →
+    (o : Option Part) → i.part ≡ o → o ≢ None → (s : Section) × ((r : Section) × Lies layout objects (an_item k i) s r)
+lies_by layout objects k i e None f h = absurd (h refl)
+lies_by layout objects k i e (Some p) f h = (_, lies_at layout objects k i p (e, f))
 
 pub items_lie : ItemsLie
-items_lie layout objects k h = lies_by layout objects k (item_at (items_of layout objects) k).part refl h
+items_lie layout objects k i e h = lies_by layout objects k i e i.part refl h
 
 pub lies_aligned : LiesAligned
-lies_aligned layout objects s p t r (item_lies k q x e f) = aligned (starts_of layout) (items_of layout objects) k q e
+lies_aligned layout objects s p t r (item_lies k i q x e f g) = aligned (starts_of layout) (items_of layout objects) k i q (e, f)
 lies_aligned layout objects s p t r (stub_lies i m e) =
     let g = got layout.modules i m e in
     ap (λ (x : ModuleValue). x.text.start % 2) (sym (g.1 m)) ∙ (s.modules_kept i m g.0).text_region.even_start

@@ -1,5 +1,5 @@
 -- A search finds no refusal exactly where each element gives none.
-use Rattle.std.proofs.Common.{◌≡◌, ◌≢◌, ℕ, zero, suc, ◌+◌, ◌<◌, List, [], ◌∷◌, length, get_or, Option, Some, None, Bool, true, false, is_none, refl, ap, ◌∙◌, arith}
+use Rattle.std.proofs.Common.{◌≡◌, ◌≢◌, ℕ, zero, suc, ◌+◌, ◌<◌, List, [], ◌∷◌, length, get_or, Option, Some, None, Bool, true, false, is_none, refl, ap, sym, ◌∙◌, arith}
 use Rattle.std.specs.Prelude.{All, slice_get}
 use Rattle.mod_layout.specs.First.{first_in}
 use Rattle.link_symbols.specs.Passes.{first_at}
@@ -74,3 +74,12 @@ pub gets : {X : Type 0} (xs : List X) (k : ℕ) (d : X) → k < length xs → sl
 gets [] k d l = absurd (omega arith)
 gets (y ∷ ys) zero d l = refl
 gets (y ∷ ys) (suc k) d l = gets ys k d (omega arith)
+
+-- the same by elements that are there
+pub found_none : {X A : Type 0} (f : ℕ → X → Option A) (xs : List X) → first_at f 0 xs ≡ None → (k : ℕ) (x : X) →
+    slice_get xs k ≡ Some x → f k x ≡ None
+found_none f xs e k x g = let h = got xs k x g in ap (f k) (sym (h.1 x)) ∙ at_none f xs e k x h.0
+
+pub none_found : {X A : Type 0} (f : ℕ → X → Option A) (xs : List X) →
+    ((k : ℕ) (x : X) → slice_get xs k ≡ Some x → f k x ≡ None) → first_at f 0 xs ≡ None
+none_found f xs h = none_at f xs (λ k d l. h k (get_or xs k d) (gets xs k d l))

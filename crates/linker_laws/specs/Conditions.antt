@@ -1,5 +1,5 @@
 -- When objects link, by conditions over every section, symbol, relocation, vector, entry and region.
-use Rattle.std.specs.Prelude.{◌≡◌, ◌≢◌, ◌≤◌, ◌<◌, ◌↔◌, ◌%◌, ℕ, List, [], length, true, Option, Some, None, IfSome, All, AllPairs, slice_get, slice_index_or}
+use Rattle.std.specs.Prelude.{◌≡◌, ◌≢◌, ◌≤◌, ◌<◌, ◌↔◌, ◌%◌, ℕ, List, [], true, Option, Some, None, IfSome, All, AllPairs, slice_get}
 use Rattle.elf_objects.specs.Object.{ObjectValue}
 use Rattle.elf_objects.specs.declared.object.Binding.TheVariants as binding
 use Rattle.elf_objects.specs.declared.object.SectionHead.{SectionHead}
@@ -14,7 +14,7 @@ use Rattle.link_symbols.specs.Parts.{is_loaded_head, code_part, part_of}
 use Rattle.link_symbols.specs.Symbols.{NamedValue, named_symbol, named_symbols}
 use Rattle.link_symbols.specs.Names.{stands_for, symbol_meaning}
 use Rattle.link_symbols.specs.Resolved.{items_of}
-use Rattle.linker.specs.Placement.{item_at, text_of, ram_of}
+use Rattle.linker.specs.Placement.{text_of, ram_of}
 use Rattle.linker.specs.Numbers.{Linking, linking_of, numbers_in, region_end}
 use Rattle.linker.specs.Fields.{field_place, file_size, symbol_sum}
 use Rattle.linker.specs.Refusals.{link_fault_of}
@@ -50,23 +50,23 @@ pub record IsEntryPlace (items : List Item) (i : ℕ) (found : Option Meaning) :
   pub item : ℕ
   pub offset : ℕ
   pub place : found ≡ Some (meaning.Place item offset)
-  pub code : (item_at items item).part ≡ Some (code_part i)
+  pub section : Item
+  pub listed : slice_get items item ≡ Some section
+  pub code : section.part ≡ Some (code_part i)
   pub even : offset % 2 ≡ 0
-  pub within : offset < (item_at items item).size
+  pub within : offset < section.size
 
 -- each entry's name stands for one in its own module
 abbrev pub EntriesStand : (List ℕ → Option Meaning) → List Item → List ModuleValue → Type 0
-EntriesStand names items modules = (i : ℕ) (d : ModuleValue) → i < length modules →
-    All (λ name. IsEntryPlace items i (names name)) (slice_index_or modules i d).entries
+EntriesStand names items modules = (i : ℕ) (m : ModuleValue) → slice_get modules i ≡ Some m →
+    All (λ name. IsEntryPlace items i (names name)) m.entries
 
 -- each region's contents end within it, a module's at an even address
 pub record ContentsFit (layout : LayoutValue) (end : ℕ → ℕ) : Type 0 where
   pub text : end 0 ≤ layout.text.end
   pub ram : end 1 ≤ layout.ram.end
-  pub module_text : (i : ℕ) (d : ModuleValue) → i < length layout.modules →
-      (text_of end i (slice_index_or layout.modules i d)).end ≤ (slice_index_or layout.modules i d).text.end
-  pub module_ram : (i : ℕ) (d : ModuleValue) → i < length layout.modules →
-      (ram_of end i (slice_index_or layout.modules i d)).end ≤ (slice_index_or layout.modules i d).ram.end
+  pub module_text : (i : ℕ) (m : ModuleValue) → slice_get layout.modules i ≡ Some m → (text_of end i m).end ≤ m.text.end
+  pub module_ram : (i : ℕ) (m : ModuleValue) → slice_get layout.modules i ≡ Some m → (ram_of end i m).end ≤ m.ram.end
 
 -- each relocation applies to the bytes of its section, at its address
 abbrev pub RelocationsApply : Linking → List ObjectValue → Type 0

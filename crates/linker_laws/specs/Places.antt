@@ -6,15 +6,16 @@ use Rattle.elf_objects.specs.Object.{ObjectValue}
 use Rattle.layout_file.specs.Overlaps.{ShareNoByte}
 use Rattle.layout_file.specs.Sound.{IsLayout}
 use Rattle.layout_file.specs.Values.{ModuleValue, LayoutValue, regions}
+use Rattle.link_symbols.specs.declared.item.Item.{Item}
 use Rattle.link_symbols.specs.declared.item.Part.{Part}
 use Rattle.link_symbols.specs.Resolved.{items_of}
-use Rattle.linker.specs.Placement.{item_at, starts_of, address_at, module_stub_size}
+use Rattle.linker.specs.Placement.{starts_of, address_at, module_stub_size}
 use Rattle.linker.specs.Refusals.{link_fault_of}
 
--- what takes bytes: a section or a common, by its number among the items; the entry stub of a module, with its table;
+-- what takes bytes: an item, a section or a common, with its number; the entry stub of a module, with its table;
 -- the two words and the stack at the start of a module's data; the vectors
 pub data Piece : Type 0 where
-  an_item : (k : ℕ) → Piece
+  an_item : (k : ℕ) (i : Item) → Piece
   a_stub : (i : ℕ) → Piece
   a_stack : (i : ℕ) → Piece
   the_vectors : Piece
@@ -24,15 +25,14 @@ abbrev pub span : ℕ → ℕ → Section
 span at size = record { start = at; end = at + size }
 
 -- the bytes of an item, where it stands
-abbrev pub item_span : LayoutValue → List ObjectValue → ℕ → Section
-item_span layout objects k =
-    span (address_at (starts_of layout) (items_of layout objects) k) (item_at (items_of layout objects) k).size
+abbrev pub item_span : LayoutValue → List ObjectValue → ℕ → Item → Section
+item_span layout objects k i = span (address_at (starts_of layout) (items_of layout objects) k) i.size
 
 -- a piece, the bytes that it takes, and the region of the layout that is to hold it
 pub data Lies (layout : LayoutValue) (objects : List ObjectValue) : Piece → Section → Section → Type 0 where
-  item_lies : (k : ℕ) (p : Part) (r : Section) → (item_at (items_of layout objects) k).part ≡ Some p →
-      slice_get (regions layout.text layout.ram layout.modules) p.region ≡ Some r →
-      Lies layout objects (an_item k) (item_span layout objects k) r
+  item_lies : (k : ℕ) (i : Item) (p : Part) (r : Section) → slice_get (items_of layout objects) k ≡ Some i →
+      i.part ≡ Some p → slice_get (regions layout.text layout.ram layout.modules) p.region ≡ Some r →
+      Lies layout objects (an_item k i) (item_span layout objects k i) r
   stub_lies : (i : ℕ) (m : ModuleValue) → slice_get layout.modules i ≡ Some m →
       Lies layout objects (a_stub i) (span m.text.start (module_stub_size m)) m.text
   stack_lies : (i : ℕ) (m : ModuleValue) → slice_get layout.modules i ≡ Some m →
@@ -41,8 +41,9 @@ pub data Lies (layout : LayoutValue) (objects : List ObjectValue) : Piece → Se
 
 -- each section or common that goes to a part lies somewhere
 abbrev pub ItemsLie : Type 0
-ItemsLie = (layout : LayoutValue) (objects : List ObjectValue) (k : ℕ) →
-    (item_at (items_of layout objects) k).part ≢ None → (s : Section) × ((r : Section) × Lies layout objects (an_item k) s r)
+ItemsLie = (layout : LayoutValue) (objects : List ObjectValue) (k : ℕ) (i : Item) →
+    slice_get (items_of layout objects) k ≡ Some i → i.part ≢ None →
+    (s : Section) × ((r : Section) × Lies layout objects (an_item k i) s r)
 
 -- all bytes of a section are another's
 pub record IsInside (s r : Section) : Type 0 where
@@ -61,11 +62,11 @@ LieApart = (layout : LayoutValue) (objects : List ObjectValue) → IsLayout layo
     Lies layout objects p s a → Lies layout objects q t b → p ≢ q → ShareNoByte s t
 
 -- an item's alignment is at least 2
-abbrev pub alignment_of : LayoutValue → List ObjectValue → Piece → ℕ
-alignment_of layout objects (an_item k) = max (item_at (items_of layout objects) k).align 2
-alignment_of layout objects _ = 2
+abbrev pub alignment_of : Piece → ℕ
+alignment_of (an_item k i) = max i.align 2
+alignment_of _ = 2
 
 -- each piece starts at a multiple of its alignment
 abbrev pub LiesAligned : Type 0
 LiesAligned = (layout : LayoutValue) (objects : List ObjectValue) → IsLayout layout →
-    (p : Piece) (s r : Section) → Lies layout objects p s r → s.start % alignment_of layout objects p ≡ 0
+    (p : Piece) (s r : Section) → Lies layout objects p s r → s.start % alignment_of p ≡ 0

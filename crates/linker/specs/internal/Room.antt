@@ -10,7 +10,7 @@ use Rattle.link_symbols.specs.declared.item.Part.{Part}
 use Rattle.link_symbols.specs.declared.item.Item.{Item}
 use Rattle.link_symbols.specs.Passes.{NumberedObject}
 use Rattle.link_symbols.specs.Parts.{is_loaded_head}
-use Rattle.linker.specs.Placement.{module_stub_size, item_at}
+use Rattle.linker.specs.Placement.{module_stub_size}
 use Rattle.linker.specs.Fields.{file_size, target_address}
 
 -- a place of so many bytes above the devices and below the vectors
@@ -20,7 +20,7 @@ pub record Room (at size : ℕ) : Type 0 where
 
 -- every item that goes somewhere has room there
 abbrev pub ItemsFit : (ℕ → ℕ) → List Item → Type 0
-ItemsFit address items = (k : ℕ) (p : Part) → k < length items → (item_at items k).part ≡ Some p → Room (address k) (item_at items k).size
+ItemsFit address items = (k : ℕ) (i : Item) (p : Part) → slice_get items k ≡ Some i → i.part ≡ Some p → Room (address k) i.size
 
 -- an object's loaded sections have room where they stand
 abbrev pub SectionsFit : (ℕ → ℕ) → NumberedObject → Type 0
