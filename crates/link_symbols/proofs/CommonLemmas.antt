@@ -1,15 +1,15 @@
 -- Commons joined one after another.
-use Rattle.std.proofs.Common.{◌≡◌, ℕ, ◌+◌, ◌<◌, List, [], ◌∷◌, ◌++◌, is_some, map, length, get_or, Option, Some, None, Bool, true, false, refl, ap, sym, ◌∙◌, arith, max, subst, append_assoc, length-append}
-use Rattle.std.specs.Prelude.{bytes_eq, fold}
+use Rattle.std.proofs.Common.{◌≡◌, ℕ, ◌+◌, ◌<◌, List, [], ◌∷◌, ◌++◌, is_some, map, length, Option, Some, None, Bool, true, false, refl, ap, sym, ◌∙◌, arith, max, subst, append_assoc, length-append}
+use Rattle.std.specs.Prelude.{bytes_eq, fold, slice_get}
 use Rattle.std.proofs.Math.ListN.{set}
-use Rattle.std.proofs.Math.Seq.{set-append_seam, get_or-append_seam}
+use Rattle.std.proofs.Math.Seq.{set-append_seam}
 use Rattle.std.proofs.lemmas.List.{length-map, map-append}
-use Rattle.std.proofs.lemmas.Option.{same_Some}
+use Rattle.std.proofs.lemmas.Option.{same_Some, slice_get_within}
 use Rattle.link_symbols.specs.declared.item.Item.{Item}
 use Rattle.link_symbols.specs.declared.names.Names.{Names}
 use Rattle.link_symbols.specs.Passes.{some_if}
 use Rattle.std.specs.Option.{option_or}
-use Rattle.link_symbols.specs.Commons.{Common, commons_with, common_at, common_item, some_item, with_symbol}
+use Rattle.link_symbols.specs.Commons.{Common, commons_with, common_at, common_item, with_symbol}
 use Rattle.link_symbols.specs.internal.Values.{joined_item}
 use Rattle.link_symbols.specs.internal.Maps.{HoldsCommons, name_entry, Notes}
 use Rattle.link_symbols.specs.declared.names.Definition.{Definition}
@@ -49,35 +49,43 @@ common_at_append n (d ∷ ds) c q =
 
 -- a common of the name of the item with this number is joined with it
 pub record Joins (n : ℕ) (cs : List Common) (c : Common) (number : ℕ) (front : List Item) : Type 0 where
-  pub within : number < length front + length cs
-  pub items : front ++ map common_item (commons_with cs c) ≡ set (front ++ map common_item cs) number (joined_item (get_or (front ++ map common_item cs) number some_item) c.size c.align)
+  pub item : Item
+  pub found : slice_get (front ++ map common_item cs) number ≡ Some item
+  pub items : front ++ map common_item (commons_with cs c) ≡ set (front ++ map common_item cs) number (joined_item item c.size c.align)
   pub numbers : (q : List ℕ) → common_at n (commons_with cs c) q ≡ common_at n cs q
+
+found_seam : (front : List Item) (x : Item) (rest : List Item) → slice_get (front ++ x ∷ rest) (length front) ≡ Some x
+found_seam [] x rest = refl
+found_seam (y ∷ ys) x rest = found_seam ys x rest
 
 joins_same : (n : ℕ) (d : Common) (ds : List Common) (c : Common) (front : List Item) → bytes_eq d.name c.name ≡ true → length front ≡ n → Joins n (d ∷ ds) c n front
 joins_same n d ds c front q e = record {
-  within = omega arith;
+  item = common_item d;
+  found = subst (λ k. slice_get (front ++ common_item d ∷ map common_item ds) k ≡ Some (common_item d)) e (found_seam front (common_item d) (map common_item ds));
   items = ap (λ l. front ++ map common_item l) (joined_same d ds c q)
       ∙ (sym (set-append_seam front (common_item d) (map common_item ds) (joined_item (common_item d) c.size c.align))
-      ∙ (ap (λ x. set (front ++ common_item d ∷ map common_item ds) (length front) (joined_item x c.size c.align)) (sym (get_or-append_seam front (common_item d) (map common_item ds) some_item))
-      ∙ ap (λ k. set (front ++ common_item d ∷ map common_item ds) k (joined_item (get_or (front ++ common_item d ∷ map common_item ds) k some_item) c.size c.align)) e));
+      ∙ ap (λ k. set (front ++ common_item d ∷ map common_item ds) k (joined_item (common_item d) c.size c.align)) e);
   numbers = λ p. ap (λ l. common_at n l p) (joined_same d ds c q);
 }
 
-joins_later : (n number : ℕ) (d : Common) (ds : List Common) (c : Common) (front : List Item) → bytes_eq d.name c.name ≡ false → length front ≡ n →
+joins_later : (n number : ℕ) (d : Common) (ds : List Common) (c : Common) (front : List Item) → bytes_eq d.name c.name ≡ false →
     Joins (n + 1) ds c number (front ++ common_item d ∷ []) → Joins n (d ∷ ds) c number front
-joins_later n number d ds c front q e j = record {
-  within = omega (arith, j.within, length-append front (common_item d ∷ []));
-  items = ap (λ l. front ++ map common_item l) (joined_other d ds c q)
-      ∙ (sym (append_assoc front (common_item d ∷ []) (map common_item (commons_with ds c)))
-      ∙ (j.items ∙ ap (λ l. set l number (joined_item (get_or l number some_item) c.size c.align)) (append_assoc front (common_item d ∷ []) (map common_item ds))));
-  numbers = λ p. ap (λ l. common_at n l p) (joined_other d ds c q) ∙ ap (option_or (some_if (bytes_eq d.name p) (Some n))) (j.numbers p);
-}
+joins_later n number d ds c front q j =
+    let same = append_assoc front (common_item d ∷ []) (map common_item ds) in
+    record {
+      item = j.item;
+      found = ap (λ l. slice_get l number) (sym same) ∙ j.found;
+      items = ap (λ l. front ++ map common_item l) (joined_other d ds c q)
+          ∙ (sym (append_assoc front (common_item d ∷ []) (map common_item (commons_with ds c)))
+          ∙ (j.items ∙ ap (λ l. set l number (joined_item j.item c.size c.align)) same));
+      numbers = λ p. ap (λ l. common_at n l p) (joined_other d ds c q) ∙ ap (option_or (some_if (bytes_eq d.name p) (Some n))) (j.numbers p);
+    }
 
 joined_known_by : (n number : ℕ) (d : Common) (ds : List Common) (c : Common) (front : List Item) (b : Bool) → bytes_eq d.name c.name ≡ b → length front ≡ n →
     option_or (some_if b (Some n)) (common_at (n + 1) ds c.name) ≡ Some number →
     (common_at (n + 1) ds c.name ≡ Some number → Joins (n + 1) ds c number (front ++ common_item d ∷ [])) → Joins n (d ∷ ds) c number front
 joined_known_by n number d ds c front true q e k ih = subst (λ m. Joins n (d ∷ ds) c m front) (same_Some n number k) (joins_same n d ds c front q e)
-joined_known_by n number d ds c front false q e k ih = joins_later n number d ds c front q e (ih k)
+joined_known_by n number d ds c front false q e k ih = joins_later n number d ds c front q (ih k)
 
 pub joined_known : (n number : ℕ) (cs : List Common) (c : Common) (front : List Item) → length front ≡ n → common_at n cs c.name ≡ Some number → Joins n cs c number front
 joined_known n number [] c front e k = some_none number (sym k)
@@ -91,15 +99,15 @@ pub known_within : (names : Names) (items sections : List Item) (cs : List Commo
     name_entry names.commons c.name ≡ Some number → number < length items
 known_within names items sections cs c number h e =
     let j = joined_known (length sections) number cs c sections refl (sym (h.numbers c.name) ∙ e) in
-    omega (arith, j.within, ap length h.items_are, length-append sections (map common_item cs), length-map cs common_item)
+    slice_get_within items number j.item (ap (λ l. slice_get l number) h.items_are ∙ j.found)
 
 pub holds_known : (old new : Names) (items after sections : List Item) (cs : List Common) (c : Common) (number : ℕ) → HoldsCommons old items sections cs →
-    name_entry old.commons c.name ≡ Some number → new.commons ≡ old.commons → after ≡ set items number (joined_item (get_or items number some_item) c.size c.align) →
-    HoldsCommons new after sections (commons_with cs c)
+    name_entry old.commons c.name ≡ Some number → new.commons ≡ old.commons →
+    ((x : Item) → slice_get items number ≡ Some x → after ≡ set items number (joined_item x c.size c.align)) → HoldsCommons new after sections (commons_with cs c)
 holds_known old new items after sections cs c number h e same made =
     let j = joined_known (length sections) number cs c sections refl (sym (h.numbers c.name) ∙ e) in
     record {
-      items_are = made ∙ (ap (λ l. set l number (joined_item (get_or l number some_item) c.size c.align)) h.items_are ∙ sym j.items);
+      items_are = made j.item (ap (λ l. slice_get l number) h.items_are ∙ j.found) ∙ (ap (λ l. set l number (joined_item j.item c.size c.align)) h.items_are ∙ sym j.items);
       numbers = λ q. ap (λ m. name_entry m q) same ∙ (h.numbers q ∙ sym (j.numbers q));
     }
 

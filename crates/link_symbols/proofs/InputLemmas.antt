@@ -12,7 +12,7 @@ use Rattle.link_symbols.specs.declared.item.Item.{Item}
 use Rattle.link_symbols.specs.declared.names.Names.{Names}
 use Rattle.link_symbols.specs.declared.names.Definition.{Definition}
 use Rattle.link_symbols.specs.Parts.{items_in, section_items}
-use Rattle.link_symbols.specs.Commons.{with_symbol, common_item, common_at, commons_of}
+use Rattle.link_symbols.specs.Commons.{with_symbol, common_item, common_at}
 use Rattle.link_symbols.specs.Symbols.{named_symbols}
 use Rattle.link_symbols.specs.Definitions.{strong_of, weak_of}
 use Rattle.link_symbols.specs.Names.{stands_by, stands_for, count_sections}

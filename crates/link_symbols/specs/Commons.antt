@@ -41,9 +41,6 @@ commons_of symbols = fold (with_symbol (strong_of symbols)) [] symbols
 abbrev pub common_item : Common → Item
 common_item c = record { part = Some (part_at 1 2); align = c.align; size = c.size }
 
-abbrev pub some_item : Item
-some_item = record { part = None; align = 0; size = 0 }
-
 -- the number of the common of this name, the commons being numbered from here on
 abbrev pub common_at : ℕ → List Common → List ℕ → Option ℕ
 common_at n cs name = first_at (λ k c. some_if (bytes_eq c.name name) (Some k)) n cs

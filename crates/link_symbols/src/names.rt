@@ -1,11 +1,11 @@
 //! What names stand for.
 
-ghost use Rattle.std.specs.Prelude.{◌≡◌, ◌≤◌, ◌+◌, ◌*◌, ◌^◌, ◌++◌, List, [], ◌∷◌, ℕ, length, Some, None, OnOk, IfOk, IfErr, bytes_eq, fold, ◌<◌, slice_set, slice_index_or, true, map};
+ghost use Rattle.std.specs.Prelude.{◌≡◌, ◌≤◌, ◌+◌, ◌*◌, ◌^◌, ◌++◌, List, [], ◌∷◌, ℕ, length, Some, None, OnOk, IfOk, IfErr, bytes_eq, fold, ◌<◌, slice_get, slice_set, true, map};
 ghost use Rattle.elf_objects.specs.Object.{IsSymbol};
 ghost use Rattle.link_symbols.specs.Passes.{NumberedObject, numbered_objects, IsLinkFaultOf, some_if};
 ghost use Rattle.std.specs.Option.{option_or};
 ghost use Rattle.link_symbols.specs.Passes.{numbered_object};
-ghost use Rattle.link_symbols.specs.Commons.{common_item, commons_of, common_at, some_item, Common, with_common, with_symbol};
+ghost use Rattle.link_symbols.specs.Commons.{common_item, commons_of, common_at, Common, with_common, with_symbol};
 ghost use Rattle.link_symbols.specs.internal.Founds.{is_common};
 ghost use Rattle.link_symbols.specs.internal.Values.{joined_item};
 ghost use Rattle.link_symbols.specs.Names.{stands_by, stands_for};
@@ -348,10 +348,11 @@ impl<'a> Names<'a> {
 }
 
 // A common more of an item's name.
+#[tactic(auto, using(std::proofs::lemmas::Option::get_or_from_slice_get))]
 fn join(items: &mut Vec<Item>, number: usize, size: u32, align: u32)
     requires { number < length items.old.items }
-    ensures { items.new.items ≡ slice_set items.old.items number (joined_item (slice_index_or items.old.items
-        number some_item) size align) }
+    ensures { (item : Item) → slice_get items.old.items number ≡ Some item → items.new.items ≡ slice_set
+        items.old.items number (joined_item item size align) }
 {
     let item = items[number];
     items[number] = Item {

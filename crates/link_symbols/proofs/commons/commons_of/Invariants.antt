@@ -1,4 +1,4 @@
-use Rattle.std.proofs.Common.{◌≡◌, ◌≤◌, ◌*◌, drop}
+use Rattle.std.proofs.Common.{◌≤◌, ◌*◌, drop}
 use Rattle.std.specs.List.{flat_map}
 use Rattle.link_symbols.specs.Commons.{commons_of}
 use Rattle.link_symbols.specs.Passes.{numbered_objects_from}

@@ -1,4 +1,4 @@
-use Rattle.std.proofs.Common.{◌≡◌, ◌+◌, ◌∷◌, ◌++◌, ℕ, List, sym, subst, drop}
+use Rattle.std.proofs.Common.{◌+◌, ◌++◌, List, subst, drop}
 use Rattle.link_symbols.specs.Passes.{NumberedObject, map_at}
 use Rattle.link_symbols.specs.Symbols.{NamedValue, named_symbol}
 use Rattle.link_symbols.specs.CommonNames.{borrowed}

@@ -1,4 +1,4 @@
-use Rattle.std.proofs.Common.{◌≡◌, List, ap, ◌∙◌, length, arith, subst}
+use Rattle.std.proofs.Common.{◌≡◌, List, ap, length, arith, subst}
 use Rattle.std.specs.Prelude.{IfOk}
 use Rattle.elf_objects.specs.Object.{ObjectValue}
 use Rattle.link_symbols.specs.CommonNames.{borrowed, common_names}
