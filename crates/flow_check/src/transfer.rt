@@ -165,7 +165,11 @@ fn single(op: OneOp, width: Width, a: Val, c: Val) -> Told
 {
     let carry = carry_if(one_reads_carry(op), c);
     let value = one_value(op, width, a, carry);
-    told(value, one_sets_flags(op), blurred_all(a, carry, Val::Known(0)))
+    told(
+        value,
+        one_sets_flags(op),
+        blurred_all(a, carry, Val::Known(0)),
+    )
 }
 
 /// The low byte, or the word.
