@@ -1,41 +1,40 @@
 -- A cycle in which the module is active in both runs: they go on together.
 use Rattle.std.proofs.Common.{◌≡◌, inr, ℕ, List, refl, sym, ap, ◌∙◌, subst, true, false, Option, Some, ⊎_elim, zero, suc, ◌+◌, ◌*◌, ◌%◌, [], ◌∷◌, length, map, arith, Bool, not, ◌||◌, ◌==◌, None}
+use Rattle.attest.specs.Accesses.{reads_of}
+use Rattle.cpu_step.specs.Asked.{asks}
+use Rattle.cpu_step.specs.Fetched.{insn_in}
+use Rattle.cpu_step.specs.Lone.{Lone, job_of, Job, Doing, Waits, Closes, Leaves, Breaks, Does, doing, doing_by, next_insn, lone_does, lone_step_by, lone_read, lone_who, lone_byte, is_alone}
+use Rattle.insn_decode.specs.declared.insn.Insn.{Insn}
+use Rattle.isolation.specs.Calls.{rest_of}
 use Rattle.mod_layout.specs.Table.{size_of, place_of, holds}
 use Rattle.mod_layout.specs.declared.Module.{Module}
+use Rattle.mod_layout.specs.declared.Place.{Place}
+use Rattle.mod_layout.specs.declared.Place.TheVariants.{Entry}
 use Rattle.pc_access.specs.Rights.{is_id, is_held, refuse_if, right, right_at}
+use Rattle.pc_access.specs.declared.Kind.TheVariants.{Fetch}
+use Rattle.pc_access.specs.declared.Rule.{Rule}
+use Rattle.reg_backup.specs.Held.{held_ids}
 use Rattle.reg_backup.specs.Saved.{closing_after, is_close}
 use Rattle.reg_backup.specs.declared.backup.Backup.{Backup}
 use Rattle.reg_backup.specs.declared.backup.Phase.TheVariants.{Run}
-use Rattle.cpu_step.specs.LoneLaws.{GoesOn}
-use Rattle.cpu_step.specs.Lone.{Lone, job_of, Job, Doing, Waits, Closes, Leaves, Breaks, Does, doing, doing_by, next_insn, lone_does, lone_step_by, lone_read, lone_who, lone_byte, is_alone}
+use Rattle.reg_backup.specs.declared.frames.Frame.{Frame}
+use Rattle.reg_backup.specs.declared.frames.Frame.TheVariants.{Plain, Module as Held}
+use Rattle.sm_words.specs.Sums.{one_if}
+use Rattle.sm_words.specs.Words.{cleared, reg, IsCore}
+use Rattle.std.proofs.lemmas.Bool.Decides.{nat_tests}
 use Rattle.written_machine.specs.Cycle.{Step, act, quiet, told, pc_of, due, arrive_inside, turn, begin, enter_at, enter, fetch, unless}
 use Rattle.written_machine.specs.Peers.{section}
 use Rattle.written_machine.specs.State.{State}
+use Rattle.cpu_step.specs.LoneLaws.{GoesOn}
 use Rattle.isolation.proofs.Evenly.{Evenly, Together, next_together}
 use Rattle.isolation.proofs.Hide.{veil_core, hide_by, hide}
 use Rattle.isolation.proofs.Inside.{Moves, may_some, did_act}
 use Rattle.isolation.proofs.Rights.{own_id}
 use Rattle.isolation.proofs.Relation.{run_by, run_of, Secret, same_secret, Keeps, Twins, Alike, times, backup_of, lone_of, IsOpen, Open as IsOpenNow, Ready, Outer, outer_alike, BothActive, both_active}
 use Rattle.isolation.proofs.Settled.{close_is, arrive_inside_stays}
-use Rattle.sm_words.specs.Words.{cleared, reg, IsCore}
-use Rattle.std.proofs.lemmas.Bool.Decides.{nat_tests}
-use Rattle.sm_words.specs.Sums.{one_if}
-use Rattle.insn_decode.specs.declared.insn.Insn.{Insn}
-use Rattle.mod_layout.specs.declared.Place.{Place}
-use Rattle.mod_layout.specs.declared.Place.TheVariants.{Entry}
-use Rattle.pc_access.specs.declared.Kind.TheVariants.{Fetch}
-use Rattle.pc_access.specs.declared.Rule.{Rule}
-use Rattle.reg_backup.specs.Held.{held_ids}
-use Rattle.reg_backup.specs.declared.backup.Phase.{Phase}
-use Rattle.reg_backup.specs.declared.frames.Frame.{Frame}
-use Rattle.reg_backup.specs.declared.frames.Frame.TheVariants.{Plain, Module as Held}
-use Rattle.attest.specs.Accesses.{reads_of}
-use Rattle.cpu_step.specs.Asked.{asks}
-use Rattle.cpu_step.specs.Fetched.{insn_in}
 use Rattle.isolation.proofs.Gie.{effect_gie}
 use Rattle.isolation.proofs.Settling.{arrive_hidden, due_hidden}
-use Rattle.isolation.proofs.Cases.{turn_at, turn_is, interrupted}
-use Rattle.isolation.specs.Calls.{rest_of}
+use Rattle.isolation.proofs.Cases.{turn_as, interrupted}
 
 abbrev pub moved : State → Lone → List ℕ → State
 moved s l' memory = record s { core = l'.core; memory = memory; phase = Run l'.rest; after = closing_after l'.closing }
@@ -53,31 +52,20 @@ module _ (m : ℕ) (own : Module) (key text : List ℕ) where
   moved_hidden : (s : State) (l' : Lone) (memory : List ℕ) → is_id m s.active ≡ true → cleared own.ram.start (size_of own.ram) memory ≡ cleared own.ram.start (size_of own.ram) s.memory → veil_core l'.core ≡ veil_core s.core → hide m own (moved s l' memory) ≡ hide_by true m own s
   moved_hidden s l' memory act rest gie = rw (act, gie, rest) refl
 
-  moved_alike : (answers : List ℕ) (a b : State) (la lb : Lone) (ma mb : List ℕ) → Keeps m own key text a → Keeps m own key text b → is_id m a.active ≡ true → is_id m b.active ≡ true → hide_by true m own a ≡ hide_by true m own b →
-      section own.ram ma ≡ la.data_bytes → section own.ram mb ≡ lb.data_bytes →
-      cleared own.ram.start (size_of own.ram) ma ≡ cleared own.ram.start (size_of own.ram) a.memory → cleared own.ram.start (size_of own.ram) mb ≡ cleared own.ram.start (size_of own.ram) b.memory →
-      section own.text ma ≡ section own.text a.memory → section own.text mb ≡ section own.text b.memory →
-      veil_core la.core ≡ veil_core a.core → veil_core lb.core ≡ veil_core b.core →
-      Evenly answers key own text (job_of key own text a.caller) la lb → Twins m own key text answers (moved a la ma) (moved b lb mb)
-  moved_alike answers a b la lb ma mb ka kb act_a act_b seen da db ra rb ta tb ga gb ev =
+  pub moves_alike : (answers : List ℕ) (a b : State) (la lb : Lone) (ua ub : Step) → Keeps m own key text a → Keeps m own key text b → is_id m a.active ≡ true → is_id m b.active ≡ true → hide_by true m own a ≡ hide_by true m own b → Moves own a la ua → Moves own b lb ub → veil_core la.core ≡ veil_core a.core → veil_core lb.core ≡ veil_core b.core → Evenly answers key own text (job_of key own text a.caller) la lb → Alike m own key text answers ua ub
+  moves_alike answers a b la lb ua ub ka kb act_a act_b seen va vb ga gb ev =
       let xa : Backup = record { «module» = m; caller = a.caller; core = la.core; rest = la.rest; closing = la.closing } in
       let xb : Backup = record { «module» = m; caller = b.caller; core = lb.core; rest = lb.rest; closing = lb.closing } in
       let s : Secret m own key text answers (Some xa) (Some xb) la.data_bytes lb.data_bytes = (ap (λ u. u.caller) seen, ev) in
-      record {
-        seen = moved_hidden a la ma act_a ra ga ∙ seen ∙ sym (moved_hidden b lb mb act_b rb gb);
-        secret = same_secret m own key text answers (moved_run m a la ma act_a) (moved_run m b lb mb act_b) da db s;
-        keeps_a = moved_keeps a la ma ka ta;
-        keeps_b = moved_keeps b lb mb kb tb;
+      let t : Twins m own key text answers (moved a la va.memory) (moved b lb vb.memory) = record {
+        seen = moved_hidden a la va.memory act_a va.rest ga ∙ seen ∙ sym (moved_hidden b lb vb.memory act_b vb.rest gb);
+        secret = same_secret m own key text answers (moved_run m a la va.memory act_a) (moved_run m b lb vb.memory act_b) va.bytes vb.bytes s;
+        keeps_a = moved_keeps a la va.memory ka va.text;
+        keeps_b = moved_keeps b lb vb.memory kb vb.text;
         open_a = λ h. absurd (let x : true ≡ false = sym act_a ∙ h in cc);
         open_b = λ h. absurd (let x : true ≡ false = sym act_b ∙ h in cc);
-      }
-
-  pub moves_alike : (answers : List ℕ) (a b : State) (la lb : Lone) (ua ub : Step) → Keeps m own key text a → Keeps m own key text b → is_id m a.active ≡ true → is_id m b.active ≡ true → hide_by true m own a ≡ hide_by true m own b → Moves own a la ua → Moves own b lb ub → veil_core la.core ≡ veil_core a.core → veil_core lb.core ≡ veil_core b.core → Evenly answers key own text (job_of key own text a.caller) la lb → Alike m own key text answers ua ub
-  moves_alike answers a b la lb ua ub ka kb act_a act_b seen va vb ga gb ev =
-      let t = moved_alike answers a b la lb va.memory vb.memory ka kb act_a act_b seen va.bytes vb.bytes va.rest vb.rest va.text vb.text ga gb ev in
-      let t1 = subst (λ u. Twins m own key text answers u.state (moved b lb vb.memory)) (sym va.is) t in
-      let t2 = subst (λ u. Twins m own key text answers ua.state u.state) (sym vb.is) t1 in
-      record { events = ap (λ u. u.events) va.is ∙ sym (ap (λ u. u.events) vb.is); related = inr t2 }
+      } in
+      rw (va.is, vb.is) (record { events = refl; related = inr t })
 
 pub active_some : (m : ℕ) (a : Option ℕ) → is_id m a ≡ true → a ≡ Some m
 active_some m None e = cc
@@ -154,17 +142,12 @@ module _ (m : ℕ) (own : Module) (key text : List ℕ) (s : State) (k : Keeps m
   begin_inside left here =
       ap (λ d. unless d s (let e = enter left s in told e.events (act e.state))) (fetch_allowed here) ∙ ap (λ e. told e.events (act e.state)) (enter_inside left)
 
-  -- where nothing arrives
-  turn_to : (left : ℕ) (p : Phase) → due s ≡ None → s.phase ≡ p → turn left s ≡ turn_at None (Some m) p left s
-  turn_to left p d e =
-      turn_is left s ∙ ap (λ v. turn_at v s.active s.phase left s) d ∙ ap (λ a. turn_at None a s.phase left s) active_is ∙ ap (λ q. turn_at None (Some m) q left s) e
-
   waits_moves : (left r : ℕ) → due s ≡ None → rest_of s.phase ≡ suc r → Moves own s (record (lone_of (backup_of m s) (section own.ram s.memory)) { rest = r }) (turn left s)
   waits_moves left r d e =
       let p = k.proper is_active in
       record {
         memory = s.memory;
-        is = turn_to left (Run (suc r)) d (p.0 ∙ ap Run e) ∙ ap (λ a. let u : Step = quiet (record s { phase = Run r; after = a }) in u) p.1;
+        is = turn_as left s None (Some m) (Run (suc r)) d active_is (p.0 ∙ ap Run e) ∙ ap (λ a. let u : Step = quiet (record s { phase = Run r; after = a }) in u) p.1;
         bytes = refl;
         rest = refl;
         text = refl;
@@ -173,7 +156,7 @@ module _ (m : ℕ) (own : Module) (key text : List ℕ) (s : State) (k : Keeps m
   does_moves : (left : ℕ) (insn : Insn) → due s ≡ None → pc_of s % 2 ≡ 0 → rest_of s.phase ≡ 0 → holds own.text (pc_of s) ≡ true → next_insn (job_of key own text s.caller) (lone_of (backup_of m s) (section own.ram s.memory)) ≡ Some insn → Moves own s (lone_does (job_of key own text s.caller) insn (lone_of (backup_of m s) (section own.ram s.memory))) (turn left s)
   does_moves left insn d even e here next =
       let p = k.proper is_active in
-      let to : turn left s ≡ act s = turn_to left (Run 0) d (p.0 ∙ ap Run e) ∙ begin_inside left here in
+      let to : turn left s ≡ act s = turn_as left s None (Some m) (Run 0) d active_is (p.0 ∙ ap Run e) ∙ begin_inside left here in
       subst (Moves own s (lone_does (job_of key own text s.caller) insn (lone_of (backup_of m s) (section own.ram s.memory)))) (sym to)
       (act_moves (lone_of (backup_of m s) (section own.ram s.memory)) insn even here refl refl next)
 
@@ -188,8 +171,7 @@ module _ (m : ℕ) (own : Module) (key text : List ℕ) (s : State) (k : Keeps m
   turn_moves left _ ok d e g = absurd g
 
 pub arrives_at : (m v left : ℕ) (s : State) → s.active ≡ Some m → s.phase ≡ Run (rest_of s.phase) → due s ≡ Some v → turn left s ≡ interrupted v m s
-arrives_at m v left s e p d =
-    turn_is left s ∙ ap (λ x. turn_at x s.active s.phase left s) d ∙ ap (λ x. turn_at (Some v) x s.phase left s) e ∙ ap (λ x. turn_at (Some v) (Some m) x left s) p
+arrives_at m v left s e p d = turn_as left s (Some v) (Some m) (Run (rest_of s.phase)) d e p
 
 pub arrived_none : (m v id : ℕ) (s : State) → is_id m (interrupted v id s).state.active ≡ false
 unfolding arrive_inside

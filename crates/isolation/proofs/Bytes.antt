@@ -1,8 +1,8 @@
 -- A memory whose data section is cleared.
 use Rattle.std.proofs.Common.{◌≡◌, ◌⊎◌, inl, inr, ⊎_elim, ℕ, zero, suc, ◌+◌, ◌-◌, ◌<◌, ◌≤◌, List, [], ◌∷◌, length, get_or, take, drop, set, refl, sym, ap, ◌∙◌, arith, get_or-take, get_or-drop}
-use Rattle.std.proofs.Math.Seq.{take-set-lt}
-use Rattle.std.proofs.lemmas.List.{drop-set-add, take-set-le}
 use Rattle.sm_words.specs.Words.{cleared}
+use Rattle.std.proofs.lemmas.List.{drop-set-add, take-set-le}
+use Rattle.std.proofs.Math.Seq.{take-set-lt}
 
 -- the address is outside the n bytes from lo on
 abbrev pub Out : ℕ → ℕ → ℕ → Type 0

@@ -1,30 +1,30 @@
 -- The cycles of a call are its own, and those between its hides and resumes.
 use Rattle.std.proofs.Common.{◌≡◌, ◌≢◌, ℕ, zero, suc, ◌+◌, ◌<◌, ◌≤◌, List, [], ◌∷◌, ◌++◌, refl, sym, ap, ◌∙◌, subst, arith, Bool, true, false, cond, ◌&&◌, ◌==◌, Option, Some, None, is_none}
-use Rattle.std.proofs.lemmas.Bool.Decides.{nat_tests}
-use Rattle.isolation.proofs.Tame.{ticked_active, cycle_number, runs_so_far, cycle_ends, idle_ends}
-use Rattle.sm_words.specs.Words.{IsCore}
+use Rattle.cpu_step.specs.Lone.{Lone, Doing, Closes, Leaves, Breaks, doing, lone_after, outcome, job_of, Job, CallEnd, Broken, Running, later, Waits, Does, lone_does, lone_step, lone_step_by, in_time, at_once}
+use Rattle.image_text.specs.Image.{Image, IsImage}
+use Rattle.isolation.specs.Calls.{entry_job, entry_lone, works, worked, NoEnd, NotBroken, Away, back_from, notes, away, backup_of, run_by, lone_of, find_held, Enters, EndsCall, Takes}
+use Rattle.mod_layout.specs.Table.{module_of}
 use Rattle.mod_layout.specs.declared.Module.{Module}
 use Rattle.pc_access.specs.Rights.{is_id}
 use Rattle.pc_access.specs.declared.Stop.{Stop}
-use Rattle.cpu_step.specs.Lone.{Lone, Doing, Closes, Leaves, Breaks, doing, lone_after, outcome, job_of, Job, CallEnd, Broken, Running, later, Waits, Does, lone_does, lone_step, lone_step_by, in_time, at_once}
+use Rattle.schedule_file.specs.declared.Entry.{Entry as Scheduled}
+use Rattle.sm_words.specs.Words.{IsCore}
+use Rattle.std.proofs.lemmas.Bool.Decides.{nat_tests}
 use Rattle.tracer.specs.declared.Event.{Event}
+use Rattle.written_machine.proofs.Stops.{cycle_by}
 use Rattle.written_machine.specs.Cycle.{Step, told, unsettled, due, ticked, settle, turn, arrive_inside, sent_event, counted_by, move, cycle, after_cycles}
 use Rattle.written_machine.specs.Peers.{section}
 use Rattle.written_machine.specs.State.{State}
-use Rattle.isolation.specs.Calls.{entry_job, entry_lone, works, worked, NoEnd, NotBroken, Away, back_from, notes, away, backup_of, run_by, lone_of, find_held, Enters, EndsCall, Takes}
-use Rattle.isolation.proofs.Active.{active_some, turn_moves, arrives_at}
+use Rattle.written_machine.specs.View.{at}
+use Rattle.isolation.proofs.Tame.{ticked_active, cycle_number, runs_so_far, cycle_ends, idle_ends}
+use Rattle.isolation.proofs.Active.{active_some, arrives_at}
 use Rattle.isolation.proofs.Ending.{settled_as, settled_doing}
 use Rattle.isolation.proofs.Fine.{Fine, settled_fine}
-use Rattle.isolation.proofs.Follow.{job, works_is, Follows, Now, ticked_follows, settle_follows, active_doing, counted_events, follows_on, more_by, never_breaks, entry_text, entry_open, entry_follows, fine_from}
+use Rattle.isolation.proofs.Follow.{own_step, job, works_is, Follows, Now, ticked_follows, settle_follows, active_doing, settled_no_end, follows_on, more_by, never_breaks, entry_text, entry_open, entry_follows, fine_from}
 use Rattle.isolation.proofs.Rights.{own_id}
 use Rattle.isolation.proofs.Relation.{IsOpen, backup_of, lone_of}
 use Rattle.isolation.proofs.Still.{Still, still_notes, notes_more, turn_still, Told, settle_told}
 use Rattle.isolation.proofs.Turns.{held_turn}
-use Rattle.schedule_file.specs.declared.Entry.{Entry as Scheduled}
-use Rattle.mod_layout.specs.Table.{module_of}
-use Rattle.image_text.specs.Image.{Image, IsImage}
-use Rattle.written_machine.specs.View.{at}
-use Rattle.written_machine.proofs.Stops.{cycle_by}
 use Rattle.cpu_step.proofs.LoneLemmas.{after_step}
 use Rattle.isolation.proofs.Ways.{sent_tells}
 use Rattle.isolation.proofs.Cases.{interrupted}
@@ -49,20 +49,11 @@ module _ (m : ℕ) (own : Module) (key text : List ℕ) (from : ℕ) where
       let d = settled_doing m own key text s f.keeps act in
       d ∙ quiet_by (doing (job_of key own text s.caller) (lone_of (backup_of m s) (section own.ram s.memory))) s (subst (λ u. NoEnd m u.events) d n)
 
-  -- where nothing arrives, its turn tells nothing, and it stays active
-  plain_by : (left : ℕ) (x : Doing) (s : State) (la : Lone) → Now m own key text from s la → is_id m s.active ≡ true → IsCore s.core → due s ≡ None → doing (job m own key text from) la ≡ x → x ≢ Breaks → ((turn left s).events ≡ []) × ((turn left s).state.active ≡ s.active)
-  plain_by left Closes s la f act ok d e nb = absurd (subst IsOpen e f.now)
-  plain_by left Leaves s la f act ok d e nb = absurd (subst IsOpen e f.now)
-  plain_by left Breaks s la f act ok d e nb = absurd (nb refl)
-  plain_by left x s la f act ok d e nb =
-      let v = (turn_moves m own key text s f.follows.keeps (active_some m s.active act) left x ok d (active_doing m own key text from s la f.follows act ∙ e) tt).0 in
-      (ap (λ u. u.events) v.is, ap (λ u. u.state.active) v.is)
-
   active_turns : (left : ℕ) (d : Option ℕ) (s : State) (la : Lone) → Now m own key text from s la → is_id m s.active ≡ true → IsCore s.core → due s ≡ d → (is_none d ≡ true → doing (job m own key text from) la ≢ Breaks) → (i : ℕ) (w : Away) (c : ℕ) → Balance true i w c → Balance (is_id m (turn left s).state.active) (i + 1) (notes m i (turn left s).events w) (c + cond (is_none d) 1 0)
   active_turns left None s la f act ok e nb i w c b =
-      let p = plain_by left (doing (job m own key text from) la) s la f act ok e refl (nb refl) in
+      let v = own_step m own key text from left (doing (job m own key text from) la) s la f act ok e refl (nb refl) in
       let k : Balance true (i + 1) w (c + 1) = (b.0, let q = b.1 in omega arith) in
-      subst (λ x. Balance x (i + 1) (notes m i (turn left s).events w) (c + 1)) (sym (ap (is_id m) p.1 ∙ act)) (subst (λ es. Balance true (i + 1) (notes m i es w) (c + 1)) (sym p.0) k)
+      subst (λ x. Balance x (i + 1) (notes m i (turn left s).events w) (c + 1)) (sym (ap (λ u. is_id m u.state.active) v.is ∙ act)) (subst (λ es. Balance true (i + 1) (notes m i es w) (c + 1)) (sym (ap (λ u. u.events) v.is)) k)
   active_turns left (Some v) s la f act ok e nb i w c b =
       let a = active_some m s.active act in
       let t = arrives_at m v left s a (f.follows.keeps.proper act).0 e in
@@ -112,7 +103,7 @@ module _ (m : ℕ) (own : Module) (key text : List ℕ) (from : ℕ) where
       let u = settle t in
       let v = turn u.left u.state in
       let g = ticked_follows m own key text from s la f in
-      let ne = counted_events m own key text from v.state.stop u.events v n in
+      let ne = settled_no_end m own key text from s n in
       let now = settle_follows m own key text from (is_id m t.active) t la g refl ne in
       let b1 = subst (λ a. Balance (is_id m a) i w c) (sym (ticked_active s)) b in
       let b2 = settles (is_id m t.active) t la g refl ne i w c b1 in
@@ -193,13 +184,9 @@ module _ (m : ℕ) (own : Module) (key text : List ℕ) (from : ℕ) where
 
   -- before a cycle of its own it has not ended
   move_open : (s : State) (la : Lone) → Follows m own key text from s la → NoEnd m (move s).events → IsOpen (doing (job m own key text from) la)
-  unfolding move
   move_open s la f n =
       let t = ticked s in
-      let u = settle t in
-      let v = turn u.left u.state in
-      let g = ticked_follows m own key text from s la f in
-      (settle_follows m own key text from (is_id m t.active) t la g refl (counted_events m own key text from v.state.stop u.events v n)).now
+      (settle_follows m own key text from (is_id m t.active) t la (ticked_follows m own key text from s la f) refl (settled_no_end m own key text from s n)).now
 
   cycle_open : (o : Option Stop) (s : State) (la : Lone) → s.stop ≡ o → Follows m own key text from s la → NoEnd m (cycle_by o s).events → works m s ≡ true → IsOpen (doing (job m own key text from) la)
   cycle_open (Some stop) s la e f n w =

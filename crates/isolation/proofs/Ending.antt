@@ -1,9 +1,9 @@
 -- Settling in both runs, and a whole cycle.
 use Rattle.std.proofs.Common.{◌≡◌, ◌⊎◌, inl, inr, ℕ, zero, suc, ◌+◌, List, [], ◌∷◌, refl, sym, ap, ◌∙◌, subst, arith, Bool, true, false, ◌==◌, Option, Some, None}
-use Rattle.std.specs.List.{list_all}
-use Rattle.sm_words.specs.Sums.{one_if}
-use Rattle.sm_words.specs.Words.{cleared}
+use Rattle.attest.specs.Done.{own_of}
+use Rattle.cpu_step.specs.Lone.{Doing, Waits, Closes, Leaves, Does, doing, doing_by, next_insn, job_of, is_answer, blank}
 use Rattle.insn_decode.specs.declared.insn.Insn.{Insn}
+use Rattle.isolation.specs.Calls.{EndsCall, rest_of}
 use Rattle.mod_layout.specs.Table.{size_of, holds, without}
 use Rattle.mod_layout.specs.declared.Module.{Module}
 use Rattle.pc_access.specs.Rights.{is_id}
@@ -15,14 +15,14 @@ use Rattle.reg_backup.specs.declared.backup.Phase.{Phase}
 use Rattle.reg_backup.specs.declared.backup.Phase.TheVariants.{Run}
 use Rattle.reg_backup.specs.declared.frames.Frame.{Frame}
 use Rattle.reg_backup.specs.declared.frames.Frame.TheVariants.{Plain, Module as Held}
-use Rattle.attest.specs.Done.{own_of}
-use Rattle.cpu_step.specs.Lone.{Doing, Waits, Closes, Leaves, Does, doing, doing_by, next_insn, job_of, is_answer, blank}
-use Rattle.cpu_step.proofs.Blank.{pc_equal}
+use Rattle.sm_words.specs.Sums.{one_if}
+use Rattle.sm_words.specs.Words.{cleared}
 use Rattle.tracer.specs.declared.Event.{Event}
 use Rattle.written_machine.specs.Cycle.{Settled, unsettled, pc_of, in_text, leave_if, close_of, settle_by, settle_in, settle}
 use Rattle.written_machine.specs.Peers.{section}
 use Rattle.written_machine.specs.State.{State}
-use Rattle.isolation.specs.Calls.{EndsCall, rest_of}
+use Rattle.std.specs.List.{list_all}
+use Rattle.cpu_step.proofs.Blank.{pc_equal}
 use Rattle.isolation.proofs.Active.{active_some, said}
 use Rattle.isolation.proofs.EvenBy.{AlwaysEvenBy}
 use Rattle.isolation.proofs.Evenly.{Together, next_together}

@@ -1,24 +1,24 @@
 -- Where a module is entered, and that it is in the table then.
 use Rattle.std.proofs.Common.{◌≡◌, ◌⊎◌, inl, inr, ⊎_elim, ℕ, ◌+◌, List, [], ◌∷◌, ◌++◌, refl, ap, ◌∙◌, Bool, true, false, cond, ◌||◌, ◌==◌, Option, Some, None, is_some, arith}
-use Rattle.std.proofs.lemmas.Bool.Decides.{nat_tests}
-use Rattle.schedule_file.specs.declared.Entry.{Entry as Scheduled}
+use Rattle.image_text.specs.Image.{Image}
+use Rattle.isolation.specs.Calls.{Enters}
+use Rattle.mod_layout.proofs.Found.{place_by, find_module}
 use Rattle.mod_layout.specs.Table.{place_in, place_of, module_of, holds}
 use Rattle.mod_layout.specs.declared.Module.{Module}
 use Rattle.mod_layout.specs.declared.Place.TheVariants.{Entry}
-use Rattle.mod_layout.proofs.Found.{place_by, find_module}
 use Rattle.pc_access.specs.Rights.{right}
 use Rattle.pc_access.specs.declared.Stop.{Stop}
-use Rattle.image_text.specs.Image.{Image}
 use Rattle.reg_backup.specs.Held.{held_ids}
 use Rattle.reg_backup.specs.declared.backup.After.TheVariants.{Next}
+use Rattle.schedule_file.specs.declared.Entry.{Entry as Scheduled}
+use Rattle.std.proofs.lemmas.Bool.Decides.{nat_tests}
 use Rattle.tracer.specs.declared.Event.{Event}
 use Rattle.tracer.specs.declared.Event.TheVariants.{Enter as Entered}
-use Rattle.written_machine.specs.Cycle.{Step, told, pc_of, settle, ticked, arrive_inside, act, fetch, turn, sent_event, counted_by, move, cycle}
+use Rattle.written_machine.proofs.Stops.{cycle_by}
+use Rattle.written_machine.specs.Cycle.{Step, told, pc_of, settle, ticked, arrive_inside, act, fetch, turn, move, cycle}
 use Rattle.written_machine.specs.State.{State}
 use Rattle.written_machine.specs.View.{at}
-use Rattle.written_machine.proofs.Stops.{cycle_by}
-use Rattle.isolation.specs.Calls.{Enters}
-use Rattle.isolation.proofs.Ways.{perform_tells, sent_tells, EachAct, EachTurn, each_turn, settle_ways}
+use Rattle.isolation.proofs.Ways.{turn_tells, perform_tells, sent_tells, EachAct, EachTurn, each_turn, settle_ways}
 
 -- ---- no event of these enters a module
 module _ (m from : ℕ) where
@@ -77,27 +77,17 @@ module _ (m from : ℕ) where
     pushes = λ v s d h. absurd (one (Event.Irq v) (λ e. cc) h);
   }
 
-  counted_entering : (o : Option Stop) (es : List Event) (t : Step) → Quiet es → Enters m from (counted_by o (told es t)).events → Enters m from t.events
-  counted_entering (Some stop) es t q h = ⊎_elim (λ x. absurd (q x)) (λ x. x) (split es t.events h)
-  counted_entering None es t q h =
-      ⊎_elim
-      (λ x. ⊎_elim (λ y. absurd (q y)) (λ y. y) (split es t.events x))
-      (λ x. absurd (sent_tells Quiet (λ h. h) (λ b. one (Event.Out b) (λ e. cc)) t.state.devices.sent x))
-      (split (es ++ t.events) (sent_event t.state.devices.sent) h)
-
   move_entering : (s : State) → Enters m from (move s).events → (let u = settle (ticked s) in Enters_now u.state (turn u.left u.state))
   unfolding move
   move_entering s h =
       let u = settle (ticked s) in
       let t = turn u.left u.state in
-      each_turn (λ s t. Quiet t.events) acts_quiet Entering turns_entering u.left u.state (counted_entering t.state.stop u.events t (settle_quiet (ticked s)) h)
+      each_turn (λ s t. Quiet t.events) acts_quiet Entering turns_entering u.left u.state
+      (turn_tells (Enters m from) split (sent_tells Quiet (λ h. h) (λ b. one (Event.Out b) (λ e. cc))) t.state.stop u.events t (settle_quiet (ticked s)) h)
 
-  cycle_entering_by : (o : Option Stop) (s : State) → Enters m from (cycle_by o s).events → (o ≡ None) × (let u = settle (ticked s) in Enters_now u.state (turn u.left u.state))
-  cycle_entering_by (Some stop) s h = absurd h
-  cycle_entering_by None s h = (refl, move_entering s h)
-
-  pub cycle_entering : (s : State) → Enters m from (cycle s).events → (s.stop ≡ None) × (let u = settle (ticked s) in Enters_now u.state (turn u.left u.state))
-  cycle_entering s h = cycle_entering_by s.stop s h
+  pub cycle_entering : (o : Option Stop) (s : State) → Enters m from (cycle_by o s).events → (o ≡ None) × (let u = settle (ticked s) in Enters_now u.state (turn u.left u.state))
+  cycle_entering (Some stop) s h = absurd h
+  cycle_entering None s h = (refl, move_entering s h)
 
 -- ---- and it is in the table
 found_in : (m a : ℕ) (ms : List Module) → place_in ms a ≡ Entry m → is_some (find_module m ms) ≡ true
@@ -115,4 +105,4 @@ found_in m a (x ∷ ms) e = by ((a == x.text.start) || (a == x.text.start + 1)) 
 
 pub entered_known : (a : Image) (m : ℕ) (schedule : List Scheduled) (k from : ℕ) → Enters m from (cycle (at a schedule k)).events → is_some (module_of m (settle (ticked (at a schedule k))).state.table) ≡ true
 unfolding place_of
-entered_known a m schedule k from h = found_in m _ (settle (ticked (at a schedule k))).state.table.modules (cycle_entering m from (at a schedule k) h).1.here
+entered_known a m schedule k from h = found_in m _ (settle (ticked (at a schedule k))).state.table.modules (cycle_entering m from (at a schedule k).stop (at a schedule k) h).1.here

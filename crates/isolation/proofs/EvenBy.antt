@@ -1,10 +1,10 @@
 -- Even calls with a bound for each call, which the proofs follow, and that one bound for all says as much.
 use Rattle.std.proofs.Common.{◌≡◌, ℕ, List, [], ◌∷◌, false, zero, suc, ◌+◌, ◌≤◌, max, refl, sym, ap, ◌∙◌, subst, arith, Bool, true, nat_lt, cond}
-use Rattle.mod_layout.specs.declared.Module.{Module}
-use Rattle.cpu_step.proofs.Alike.{ends_then}
 use Rattle.cpu_step.specs.Lone.{starts, Lone, outcome, job_of, Job, Entrance, CallEnd, Exit, Closing, Broken, Running, later, Doing, Waits, Closes, Leaves, Breaks, Does, doing, lone_does, at_once, in_time, EvenBut, IsEntry, AlwaysEvenBut}
-use Rattle.isolation.proofs.Each.{Each}
+use Rattle.mod_layout.specs.declared.Module.{Module}
 use Rattle.std.proofs.lemmas.Bool.Decides.{nat_tests}
+use Rattle.cpu_step.proofs.Alike.{ends_then}
+use Rattle.isolation.proofs.Each.{Each}
 use Rattle.std.proofs.lemmas.List.Elements.{All-nil, All-cons}
 use Rattle.std.specs.Prelude.{All}
 

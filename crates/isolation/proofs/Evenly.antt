@@ -1,8 +1,8 @@
 -- Two calls that are even go on together.
 use Rattle.std.proofs.Common.{◌≡◌, ℕ, zero, suc, List, [], arith}
+use Rattle.cpu_step.specs.Lone.{Job, Lone, CallEnd, Exit, Closing, Broken, Running, later, Doing, Waits, Closes, Leaves, Breaks, Does, doing, lone_does, at_once, in_time, outcome, blank}
 use Rattle.mod_layout.specs.declared.Module.{Module}
 use Rattle.cpu_step.proofs.Alike.{ends_then}
-use Rattle.cpu_step.specs.Lone.{Job, Lone, CallEnd, Exit, Closing, Broken, Running, later, Doing, Waits, Closes, Leaves, Breaks, Does, doing, lone_does, at_once, in_time, outcome, blank}
 use Rattle.isolation.proofs.Each.{Each}
 use Rattle.isolation.proofs.EvenBy.{Call_of, EvenBy, IsCall, AlwaysEvenBy}
 

@@ -1,18 +1,18 @@
 -- The memory stays a list of 65,536 bytes.
 use Rattle.std.proofs.Common.{◌≡◌, ◌≢◌, ℕ, zero, suc, ◌+◌, ◌/◌, ◌%◌, ◌<◌, List, [], ◌∷◌, length, get_or, set, length-set, get_or-set_same, get_or-set_other, refl, sym, ◌∙◌, subst, arith, Bool, true, false, nat_lt, ◌==◌, ⊎_elim}
-use Rattle.std.proofs.lemmas.List.{set_past}
-use Rattle.std.proofs.lemmas.Bool.{cases_lt}
-use Rattle.std.proofs.lemmas.Bool.Decides.{nat_tests}
+use Rattle.attest.specs.Accesses.{reads_of, writes_of}
+use Rattle.cpu_step.specs.Asked.{asks, effect}
+use Rattle.image_text.specs.Image.{Image, IsImage}
+use Rattle.insn_decode.specs.declared.insn.Insn.{Insn}
+use Rattle.mod_layout.specs.Table.{size_of}
+use Rattle.pc_access.specs.declared.Access.{Access}
+use Rattle.schedule_file.specs.declared.Entry.{Entry as Scheduled}
 use Rattle.sm_words.specs.Words.{cleared, reg}
 use Rattle.sm_words.specs.declared.width.Width.{Width}
 use Rattle.sm_words.specs.declared.width.Width.TheVariants.{Byte, Word}
-use Rattle.insn_decode.specs.declared.insn.Insn.{Insn}
-use Rattle.schedule_file.specs.declared.Entry.{Entry as Scheduled}
-use Rattle.mod_layout.specs.Table.{size_of}
-use Rattle.pc_access.specs.declared.Access.{Access}
-use Rattle.image_text.specs.Image.{Image, IsImage}
-use Rattle.attest.specs.Accesses.{reads_of, writes_of}
-use Rattle.cpu_step.specs.Asked.{asks, effect}
+use Rattle.std.proofs.lemmas.Bool.{cases_lt}
+use Rattle.std.proofs.lemmas.Bool.Decides.{nat_tests}
+use Rattle.std.proofs.lemmas.List.{set_past}
 use Rattle.written_machine.specs.Cycle.{settle, ticked, arrive_inside, pushes, port_of, who_of, perform, enter}
 use Rattle.written_machine.specs.Ports.{Port, write_in, write_byte, write_width, take_reads, put_writes}
 use Rattle.written_machine.specs.State.{State}
@@ -48,9 +48,6 @@ cleared_byte (suc lo) (suc n) (x ∷ xs) h zero = h zero
 cleared_byte (suc lo) (suc n) (x ∷ xs) h (suc a) = cleared_byte lo (suc n) xs (λ b. h (suc b)) a
 cleared_byte lo _ _ h a = h a
 
-cleared_filled : (lo n : ℕ) (mem : List ℕ) → Filled mem → Filled (cleared lo n mem)
-cleared_filled lo n mem h = record { full = length_cleared lo n mem ∙ h.full; bytes = cleared_byte lo n mem h.bytes }
-
 write_in_filled : (b : Bool) (p : Port) (a v : ℕ) → v < 256 → Filled p.memory → Filled (write_in b p a v).memory
 write_in_filled true p a v lt h = h
 write_in_filled false p a v lt h = written p.memory a v lt h
@@ -78,7 +75,7 @@ enter_filled left s = enter_ways s (λ t. Kept s t.state) left (λ h. h) (λ id 
 
 -- ---- settling
 pub settle_filled : (s : State) → Kept s (settle s).state
-settle_filled s = settle_ways s (λ u. Kept s u.state) (λ h. h) (λ b fs e h. h) (λ id x a o. cleared_filled x.ram.start (size_of x.ram) s.memory) (λ e h. h) (λ id a h. h)
+settle_filled s = settle_ways s (λ u. Kept s u.state) (λ h. h) (λ b fs e h. h) (λ id x a o h. record { full = length_cleared x.ram.start (size_of x.ram) s.memory ∙ h.full; bytes = cleared_byte x.ram.start (size_of x.ram) s.memory h.bytes }) (λ e h. h) (λ id a h. h)
 
 pub ticked_filled : (s : State) → Kept s (ticked s)
 unfolding ticked

@@ -1,25 +1,25 @@
 -- What every state of a run keeps of its cores, its table and its ids.
 use Rattle.std.proofs.Common.{◌≡◌, ℕ, suc, ◌<◌, ◌≤◌, List, [], ◌∷◌, get_or, replicate, refl, sym, subst, arith, Bool, true, false, Option, Some, None, drop}
-use Rattle.sm_words.specs.Words.{IsCore}
+use Rattle.cpu_step.specs.Asked.{table_after}
+use Rattle.image_text.specs.Image.{Image, IsImage}
 use Rattle.insn_decode.specs.declared.insn.Insn.{Insn}
 use Rattle.insn_decode.specs.declared.insn.Insn.TheVariants.{Reti}
-use Rattle.schedule_file.specs.declared.Entry.{Entry as Scheduled}
+use Rattle.mod_layout.proofs.Found.{place_by}
+use Rattle.mod_layout.proofs.TableLemmas.{taken, table_more, table_dropped}
 use Rattle.mod_layout.specs.Table.{Table, place_in, place_of, holds}
 use Rattle.mod_layout.specs.Tables.{AreModules, IsTable}
 use Rattle.mod_layout.specs.declared.Module.{Module}
 use Rattle.mod_layout.specs.declared.Place.{Place}
 use Rattle.mod_layout.specs.declared.Place.TheVariants.{Entry}
-use Rattle.image_text.specs.Image.{Image, IsImage}
 use Rattle.reg_backup.specs.declared.frames.Frame.{Frame}
 use Rattle.reg_backup.specs.declared.frames.Frame.TheVariants.{Plain, Module as Held}
-use Rattle.cpu_step.specs.Asked.{table_after}
+use Rattle.schedule_file.specs.declared.Entry.{Entry as Scheduled}
+use Rattle.sm_words.specs.Words.{IsCore}
 use Rattle.written_machine.specs.Cycle.{Settled, pc_of, settle, ticked, arrive_inside, plain_if, push_both, who_of, perform, enter}
 use Rattle.written_machine.specs.State.{State}
 use Rattle.written_machine.specs.View.{at}
 use Rattle.isolation.proofs.Each.{Each}
 use Rattle.isolation.proofs.Gie.{effect_keeps, past_keeps}
-use Rattle.mod_layout.proofs.TableLemmas.{taken, table_more, table_dropped}
-use Rattle.mod_layout.proofs.Found.{place_by}
 use Rattle.sm_words.proofs.Cores.{put_core}
 use Rattle.isolation.proofs.Tables.{table_keeps}
 use Rattle.isolation.proofs.Ways.{Lasting, always, enter_ways, settle_ways}

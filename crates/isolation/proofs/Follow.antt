@@ -1,17 +1,26 @@
 -- One run alone: whatever interrupts it, a module that is active or held stands where it stands by itself.
 use Rattle.std.proofs.Common.{◌≡◌, ◌≢◌, ℕ, ◌+◌, List, [], ◌∷◌, ◌++◌, refl, sym, ap, ◌∙◌, subst, Bool, true, false, ◌&&◌, Option, Some, None, is_none, zero, suc, ◌<◌, arith, cond, nat_lt}
-use Rattle.isolation.proofs.Tame.{settled_key, key_at}
-use Rattle.sm_words.specs.Words.{IsCore}
+use Rattle.cpu_step.specs.Lone.{Job, Lone, Doing, Closes, Leaves, Breaks, doing, lone_step_by, lone_step, job_of, CallEnd, Exit, Closing, Broken, Running, later, Waits, Does, lone_does, lone_after, in_time, outcome, next_insn, doing_by}
+use Rattle.image_text.specs.Image.{Image, IsImage}
+use Rattle.insn_decode.specs.declared.insn.Insn.{Insn}
+use Rattle.isolation.specs.Calls.{entry_state, entry_job, entry_lone, works, NoEnd, worked, Enters, NotBroken, Stands, backup_of, run_by}
+use Rattle.mod_layout.specs.Table.{place_of, module_of}
 use Rattle.mod_layout.specs.declared.Module.{Module}
+use Rattle.mod_layout.specs.declared.Place.TheVariants.{Entry}
 use Rattle.pc_access.specs.Rights.{is_id, is_held}
 use Rattle.pc_access.specs.declared.Stop.{Stop}
+use Rattle.reg_backup.specs.Held.{held_ids}
 use Rattle.reg_backup.specs.declared.backup.Backup.{Backup}
-use Rattle.cpu_step.specs.Lone.{Job, Lone, Doing, Closes, Leaves, Breaks, doing, lone_step_by, lone_step, job_of, CallEnd, Exit, Closing, Broken, Running, later, Waits, Does, lone_does, lone_after, in_time, outcome, next_insn, doing_by}
+use Rattle.schedule_file.specs.declared.Entry.{Entry as Scheduled}
+use Rattle.sm_words.specs.Sums.{one_if}
+use Rattle.sm_words.specs.Words.{IsCore}
 use Rattle.tracer.specs.declared.Event.{Event}
-use Rattle.written_machine.specs.Cycle.{Step, told, due, ticked, settle, turn, sent_event, counted_by, move, pc_of, act, cycle, after_cycles}
+use Rattle.written_machine.proofs.Stops.{cycle_by}
+use Rattle.written_machine.specs.Cycle.{Step, told, due, ticked, settle, turn, counted_by, move, pc_of, act, cycle, after_cycles}
 use Rattle.written_machine.specs.Peers.{section}
 use Rattle.written_machine.specs.State.{State}
-use Rattle.isolation.specs.Calls.{entry_state, entry_job, entry_lone, works, NoEnd, worked, Enters, NotBroken, Stands, backup_of, run_by}
+use Rattle.written_machine.specs.View.{at}
+use Rattle.isolation.proofs.Tame.{settled_key, key_at, move_later}
 use Rattle.isolation.proofs.Active.{active_some, moved, moved_run, moved_keeps, turn_moves, arrives_at}
 use Rattle.isolation.proofs.Ending.{settled_as, settled_doing}
 use Rattle.isolation.proofs.Fine.{Fine, settled_fine, fine_at}
@@ -21,15 +30,6 @@ use Rattle.isolation.proofs.Relation.{find_held, backup_of, run_by, run_of, lone
 use Rattle.isolation.proofs.Settled.{settle_stays, passing_stays, ticked_stays, arrive_inside_stays}
 use Rattle.isolation.proofs.Turns.{held_turn, times_none, entry_free, at_entry, entered, entered_keeps, entered_moves, start, start_doing}
 use Rattle.isolation.proofs.Ways.{counted_holds}
-use Rattle.sm_words.specs.Sums.{one_if}
-use Rattle.insn_decode.specs.declared.insn.Insn.{Insn}
-use Rattle.schedule_file.specs.declared.Entry.{Entry as Scheduled}
-use Rattle.mod_layout.specs.Table.{place_of, module_of}
-use Rattle.mod_layout.specs.declared.Place.TheVariants.{Entry}
-use Rattle.image_text.specs.Image.{Image, IsImage}
-use Rattle.reg_backup.specs.Held.{held_ids}
-use Rattle.written_machine.specs.View.{at}
-use Rattle.written_machine.proofs.Stops.{cycle_by}
 use Rattle.cpu_step.proofs.LoneLemmas.{after_step}
 use Rattle.isolation.proofs.EvenBy.{cut, outcome_cut}
 use Rattle.isolation.proofs.Entering.{Enters_now, cycle_entering}
@@ -116,16 +116,17 @@ module _ (m : ℕ) (own : Module) (key text : List ℕ) (from : ℕ) where
   step_same x s la f act e =
       ap (λ j. lone_step_by x j (lone_of (backup_of m s) (section own.ram s.memory))) (active_job s la f act) ∙ ap (lone_step_by x job) (active_lone s la f act) ∙ ap (λ d. lone_step_by d job la) (sym e)
 
-  goes : (left : ℕ) (x : Doing) (s : State) (la : Lone) → Now s la → is_id m s.active ≡ true → IsCore s.core → due s ≡ None → doing job la ≡ x → x ≢ Breaks → Follows (turn left s).state (lone_step job la)
-  goes left Closes s la f act ok d e nb = absurd (subst IsOpen e f.now)
-  goes left Leaves s la f act ok d e nb = absurd (subst IsOpen e f.now)
-  goes left Breaks s la f act ok d e nb = absurd (nb refl)
-  goes left x s la f act ok d e nb =
-      let v = turn_moves m own key text s f.follows.keeps (active_some m s.active act) left x ok d (active_doing s la f.follows act ∙ e) tt in
-      moved_follows s la (lone_step job la) (turn left s) f.follows act (subst (λ l. Moves own s l (turn left s)) (step_same x s la f.follows act e) v.0)
+  -- its turn, where nothing arrives
+  pub own_step : (left : ℕ) (x : Doing) (s : State) (la : Lone) → Now s la → is_id m s.active ≡ true → IsCore s.core → due s ≡ None → doing job la ≡ x → x ≢ Breaks → Moves own s (lone_step job la) (turn left s)
+  own_step left Closes s la f act ok d e nb = absurd (subst IsOpen e f.now)
+  own_step left Leaves s la f act ok d e nb = absurd (subst IsOpen e f.now)
+  own_step left Breaks s la f act ok d e nb = absurd (nb refl)
+  own_step left x s la f act ok d e nb =
+      subst (λ l. Moves own s l (turn left s)) (step_same x s la f.follows act e)
+      (turn_moves m own key text s f.follows.keeps (active_some m s.active act) left x ok d (active_doing s la f.follows act ∙ e) tt).0
 
   turn_active : (left : ℕ) (d : Option ℕ) (s : State) (la : Lone) → Now s la → is_id m s.active ≡ true → IsCore s.core → due s ≡ d → (is_none d ≡ true → doing job la ≢ Breaks) → Follows (turn left s).state (stepped (is_none d) la)
-  turn_active left None s la f act ok e nb = goes left (doing job la) s la f act ok e refl (nb refl)
+  turn_active left None s la f act ok e nb = moved_follows s la (lone_step job la) (turn left s) f.follows act (own_step left (doing job la) s la f act ok e refl (nb refl))
   turn_active left (Some v) s la f act ok e nb =
       let a = active_some m s.active act in
       let st = arrive_inside_stays m own key text v m s f.follows.keeps a in
@@ -150,9 +151,8 @@ module _ (m : ℕ) (own : Module) (key text : List ℕ) (from : ℕ) where
   counted_follows o t la f =
       counted_holds (λ u. Follows u la) (λ s n g. follow_stays s (record s { cycle = n }) la g (passing_stays m own key text s s.devices n g.keeps) g.opened) o t f
 
-  pub counted_events : (o : Option Stop) (es : List Event) (t : Step) → NoEnd m (counted_by o (told es t)).events → NoEnd m es
-  counted_events (Some stop) es t n = no_end_front es t.events n
-  counted_events None es t n = no_end_front es t.events (no_end_front (es ++ t.events) (sent_event t.state.devices.sent) n)
+  pub settled_no_end : (s : State) → NoEnd m (move s).events → NoEnd m (settle (ticked s)).events
+  settled_no_end s n = let l = move_later s in no_end_front (settle (ticked s)).events l.rest (subst (NoEnd m) l.is n)
 
   move_follows : (s : State) (la : Lone) → Follows s la → Fine s → NoEnd m (move s).events → ((is_id m (settle (ticked s)).state.active && is_none (due (settle (ticked s)).state)) ≡ true → doing job la ≢ Breaks) → Follows (move s).state (stepped (is_id m (settle (ticked s)).state.active && is_none (due (settle (ticked s)).state)) la)
   unfolding move
@@ -161,7 +161,7 @@ module _ (m : ℕ) (own : Module) (key text : List ℕ) (from : ℕ) where
       let u = settle t in
       let v = turn u.left u.state in
       let g = ticked_follows s la f in
-      let w = settle_follows (is_id m t.active) t la g refl (counted_events v.state.stop u.events v n) in
+      let w = settle_follows (is_id m t.active) t la g refl (settled_no_end s n) in
       counted_follows v.state.stop (told u.events v) (stepped (is_id m u.state.active && is_none (due u.state)) la)
       (turn_follows u.left (is_id m u.state.active) u.state la w refl (settled_fine s fine).fine.core_ok nb)
 
@@ -256,20 +256,16 @@ module _ (m : ℕ) (own : Module) (key text : List ℕ) (from : ℕ) where
       let f = moved_follows m own key text from (entered m own key text from s) l (lone_does j i l) (act (at_entry m own key text from s)) (begun_follows s k free) (is_entered s) v in
       (subst (λ x. Follows m own key text from (act (at_entry m own key text from s)).state (lone_step_by x j l)) (sym d) f, ap (λ x. is_id m x.state.active) v.is ∙ is_entered s)
 
-  enters_follows : (s : State) (u : Step) → Keeps m own key text s → IsCore s.core → Enters_now m from s u → doing (job m own key text from) (start m own key text from s) ≢ Breaks → Follows m own key text from u.state (lone_step (job m own key text from) (start m own key text from s)) × (is_id m u.state.active ≡ true)
-  enters_follows s u k ok en nb =
-      let free = entry_free m s en.free en.here in
-      let f = first_step (next_insn (job m own key text from) (start m own key text from s)) s k ok en.here free refl nb in
-      (subst (λ x. Follows m own key text from x.state (lone_step (job m own key text from) (start m own key text from s))) (sym en.is) f.0, ap (λ x. is_id m x.state.active) en.is ∙ f.1)
-
   move_enters : (s : State) → Keeps m own key text (settle (ticked s)).state → Fine s → Enters_now m from (settle (ticked s)).state (turn (settle (ticked s)).left (settle (ticked s)).state) → doing (job m own key text from) (start m own key text from (settle (ticked s)).state) ≢ Breaks → Follows m own key text from (move s).state (lone_step (job m own key text from) (start m own key text from (settle (ticked s)).state)) × (is_id m (move s).state.active ≡ true)
   unfolding move
   move_enters s k fine en nb =
       let u = settle (ticked s) in
       let t = turn u.left u.state in
-      let e = enters_follows u.state t k (settled_fine s fine).fine.core_ok en nb in (
-        counted_follows m own key text from t.state.stop (told u.events t) (lone_step (job m own key text from) (start m own key text from u.state)) e.0,
-        counted_holds (λ v. is_id m v.active ≡ true) (λ v n h. h) t.state.stop (told u.events t) e.1,
+      let j = job m own key text from in
+      let l = start m own key text from u.state in
+      let e = first_step (next_insn j l) u.state k (settled_fine s fine).fine.core_ok en.here (entry_free m u.state en.free en.here) refl nb in (
+        counted_follows m own key text from t.state.stop (told u.events t) (lone_step j l) (subst (λ x. Follows m own key text from x.state (lone_step j l)) (sym en.is) e.0),
+        counted_holds (λ v. is_id m v.active ≡ true) (λ v n h. h) t.state.stop (told u.events t) (ap (λ x. is_id m x.state.active) en.is ∙ e.1),
       )
 
 pub after_more : (a : Image) (schedule : List Scheduled) (k i : ℕ) → after_cycles (at a schedule k) i ≡ at a schedule (i + k)
@@ -287,10 +283,7 @@ module _ (a : Image) (m : ℕ) (own : Module) (schedule : List Scheduled) (k fro
   entry_text = section own.text (entry_state a schedule k).memory
 
   entering : ((at a schedule k).stop ≡ None) × (let u = settle (ticked (at a schedule k)) in Enters_now m from u.state (turn u.left u.state))
-  entering = cycle_entering m from (at a schedule k) enters
-
-  pub entry_runs : (at a schedule k).stop ≡ None
-  entry_runs = entering.0
+  entering = cycle_entering m from (at a schedule k).stop (at a schedule k) enters
 
   entry_fine : Fine (entry_state a schedule k)
   entry_fine = (settled_fine (at a schedule k) (fine_at a schedule k ok)).fine
@@ -319,7 +312,7 @@ module _ (a : Image) (m : ℕ) (own : Module) (schedule : List Scheduled) (k fro
   unfolding start
   entry_follows nb =
       let s = at a schedule k in
-      let same : cycle s ≡ move s = ap (λ o. cycle_by o s) entry_runs in
+      let same : cycle s ≡ move s = ap (λ o. cycle_by o s) entering.0 in
       let f = move_enters m own a.node_key entry_text from s entry_keeps (fine_at a schedule k ok) entering.1 nb in
       (subst (λ x. Follows m own a.node_key entry_text from x.state (lone_step (entry_job a schedule own k from) (entry_lone a schedule own k from))) (sym same) f.0, ap (λ x. is_id m x.state.active) same ∙ f.1)
 

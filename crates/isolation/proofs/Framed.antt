@@ -1,30 +1,30 @@
 -- A module is active or in one frame at most, and there are at most eight frames.
 use Rattle.std.proofs.Common.{◌≡◌, ℕ, zero, suc, ◌+◌, ◌<◌, ◌≤◌, List, [], ◌∷◌, length, refl, sym, ap, ◌∙◌, subst, arith, Bool, true, false, nat_lt, ◌&&◌, ◌==◌, Option, Some, None, drop, cond}
-use Rattle.std.proofs.lemmas.Bool.Decides.{nat_tests}
-use Rattle.std.proofs.lemmas.Bool.{and_parts}
-use Rattle.isolation.proofs.Outside.{times_plain}
-use Rattle.sm_words.specs.Sums.{one_if}
+use Rattle.image_text.specs.Image.{Image}
 use Rattle.insn_decode.specs.declared.insn.Insn.{Insn}
-use Rattle.schedule_file.specs.declared.Entry.{Entry as Scheduled}
+use Rattle.isolation.specs.Calls.{times}
 use Rattle.mod_layout.specs.Table.{place_of}
 use Rattle.mod_layout.specs.declared.Place.TheVariants.{Entry}
 use Rattle.pc_access.specs.Rights.{is_id, is_held, right, refuse_if}
 use Rattle.pc_access.specs.declared.Rule.{Rule}
-use Rattle.image_text.specs.Image.{Image}
 use Rattle.reg_backup.specs.Held.{held_ids}
 use Rattle.reg_backup.specs.Saved.{closing_after}
 use Rattle.reg_backup.specs.declared.backup.After.{After}
 use Rattle.reg_backup.specs.declared.backup.After.TheVariants.{Next}
 use Rattle.reg_backup.specs.declared.frames.Frame.{Frame}
 use Rattle.reg_backup.specs.declared.frames.Frame.TheVariants.{Plain, Module as Held}
+use Rattle.schedule_file.specs.declared.Entry.{Entry as Scheduled}
+use Rattle.sm_words.specs.Status.{is_gie}
+use Rattle.sm_words.specs.Sums.{one_if}
+use Rattle.std.proofs.lemmas.Bool.{and_parts}
+use Rattle.std.proofs.lemmas.Bool.Decides.{nat_tests}
 use Rattle.written_machine.specs.Cycle.{pc_of, settle, due, arrive_inside, plain_if, perform, fetch, padded}
 use Rattle.written_machine.specs.Standing.{is_resume}
 use Rattle.written_machine.specs.State.{State}
 use Rattle.written_machine.specs.View.{at}
-use Rattle.isolation.specs.Calls.{times}
+use Rattle.isolation.proofs.Outside.{times_plain}
 use Rattle.isolation.proofs.Turns.{times_none, entry_free}
 pub use Rattle.isolation.proofs.Turns.{right_fetch}
-use Rattle.sm_words.specs.Status.{is_gie}
 use Rattle.isolation.proofs.Ways.{Lasting, always, settle_ways}
 
 pub record FramedBy (active : Option ℕ) (frames : List Frame) (after : After) : Type 0 where

@@ -1,23 +1,20 @@
 -- Inside a module GIE stays.
-use Rattle.std.specs.Prelude.{ℤ}
-use Rattle.std.proofs.Common.{◌≡◌, ◌≢◌, ℕ, ◌/◌, ◌%◌, ◌<◌, List, length, ap, ◌∙◌, arith, Bool, true, false, ◌==◌, length-set, get_or-set_other, get_or-set_same, is_some}
-use Rattle.sm_words.specs.Words.{reg, put, add16, bit, kept}
-use Rattle.sm_words.specs.declared.width.Width.{Width}
+use Rattle.attest.specs.Units.{Doer, next}
+use Rattle.cpu_step.specs.Asked.{effect}
+use Rattle.cpu_step.specs.Lone.{is_alone}
 use Rattle.insn_decode.specs.declared.insn.Insn.{Insn}
 use Rattle.insn_decode.specs.declared.insn.Insn.TheVariants.{Two, One, Jump, Reti, Unit as UnitOp}
+use Rattle.sm_words.specs.Words.{reg, put, add16, bit, kept}
+use Rattle.sm_words.specs.declared.width.Width.{Width}
+use Rattle.std.specs.Prelude.{ℤ}
+use Rattle.std.proofs.Common.{◌≡◌, ◌≢◌, ℕ, ◌/◌, ◌%◌, ◌<◌, List, length, ap, ◌∙◌, arith, Bool, true, false, ◌==◌, length-set, get_or-set_other, get_or-set_same, is_some}
 use Rattle.insn_decode.specs.declared.insn.OneOp.TheVariants.{Push, Call}
 use Rattle.insn_decode.specs.declared.insn.Operand.{Operand}
 use Rattle.insn_decode.specs.declared.insn.Operand.TheVariants.{Reg, Increment}
-use Rattle.attest.specs.Units.{Doer, next}
 use Rattle.attest.proofs.Moved.{unit_leaves}
-use Rattle.cpu_step.specs.Asked.{effect}
 use Rattle.cpu_step.specs.Effect.{into_register, written, does_freely, confined, confined_sr, does, set_flags, jumps, jumped}
-use Rattle.cpu_step.specs.Lone.{is_alone}
 use Rattle.cpu_step.specs.Plan.{past, stepped, lowered, writes_dst}
 use Rattle.cpu_step.specs.declared.result.Computed.{Computed}
-
-put_length : (core : List ℕ) (n v : ℕ) → length (put core n v) ≡ length core
-put_length core n v = length-set core n (kept n v)
 
 put_other : (core : List ℕ) (n v : ℕ) → 2 ≢ n → reg (put core n v) 2 ≡ reg core 2
 put_other core n v ne = get_or-set_other core n 2 (kept n v) 0 ne
@@ -69,9 +66,6 @@ module _ (P : List ℕ → Type 0) (keeps : (core : List ℕ) (n v : ℕ) → P 
   effect_keeps (UnitOp n) w core values h = unit_leaves core P (λ v. keeps (next core) 15 v (keeps core 0 _ h)) (keeps core 0 _ h) w n values
   effect_keeps insn w core values h = does_keeps insn core values (is_some w.own) h
 
-core_length : (insn : Insn) (core values : List ℕ) (n : ℕ) → length core ≡ n → length (does_freely insn core values).core ≡ n
-core_length insn core values n e = freely_keeps (λ c. length c ≡ n) (λ c k v h. put_length c k v ∙ h) insn core values e
-
 confined_gie : (old new : List ℕ) → length new ≡ 16 → bit 8 (reg (confined true old new) 2) ≡ bit 8 (reg old 2)
 unfolding confined
 confined_gie old new len =
@@ -83,10 +77,8 @@ confined_gie old new len =
 
 does_gie : (insn : Insn) (core values : List ℕ) → length core ≡ 16 → bit 8 (reg (does insn core values true).core 2) ≡ bit 8 (reg core 2)
 unfolding does
-does_gie insn core values len = confined_gie core (does_freely insn core values).core (core_length insn core values 16 len)
-
-inside_gie : (insn : Insn) (core values : List ℕ) (b : Bool) → b ≡ true → length core ≡ 16 → bit 8 (reg (does insn core values b).core 2) ≡ bit 8 (reg core 2)
-inside_gie insn core values b e len = ap (λ c. bit 8 (reg (does insn core values c).core 2)) e ∙ does_gie insn core values len
+does_gie insn core values len =
+    confined_gie core (does_freely insn core values).core (freely_keeps (λ c. length c ≡ 16) (λ c k v h. length-set c k (kept k v) ∙ h) insn core values len)
 
 -- GIE after an instruction of a module
 pub effect_gie : (insn : Insn) (w : Doer) (core values : List ℕ) → is_alone insn ≡ true → is_some w.own ≡ true → length core ≡ 16 → bit 8 (reg (effect w insn core values).core 2) ≡ bit 8 (reg core 2)
@@ -96,4 +88,4 @@ effect_gie (UnitOp n) w core values e s len =
     unit_leaves core (λ c. bit 8 (reg c 2) ≡ bit 8 (reg core 2)) (λ v. ap (bit 8) (put_other (next core) 15 v (λ e. absurd (omega (arith, e))) ∙ same))
     (ap (bit 8) same) w n values
 effect_gie Reti w core values e s len = cc
-effect_gie insn w core values e s len = inside_gie insn core values (is_some w.own) s len
+effect_gie insn w core values e s len = rw s (does_gie insn core values len)

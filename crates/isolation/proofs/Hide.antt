@@ -1,15 +1,15 @@
 -- A state with one module's secrets taken out, and what the outside does to it.
 use Rattle.std.proofs.Common.{◌≡◌, ◌≢◌, ℕ, suc, ◌+◌, ◌*◌, ◌%◌, ◌≤◌, List, [], ◌∷◌, length, get_or, refl, sym, ap, ◌∙◌, subst, arith, Bool, true, false, nat_lt, cond, not, ◌&&◌, ◌||◌, ◌==◌, Option, Some, None, drop}
-use Rattle.std.proofs.lemmas.Bool.{and_parts}
-use Rattle.sm_words.specs.Words.{cleared, reg, bit, word_at}
-use Rattle.sm_words.specs.declared.width.Width.TheVariants.{Word}
+use Rattle.attest.specs.Accesses.{reads_of, writes_of}
+use Rattle.cpu_step.specs.Asked.{asks, effect}
+use Rattle.cpu_step.specs.Fetched.{later_word, insn_at}
 use Rattle.insn_decode.specs.Code.{insn_of, length_of}
 use Rattle.insn_decode.specs.declared.insn.Insn.{Insn}
 use Rattle.insn_decode.specs.declared.insn.Insn.TheVariants.{Reti}
+use Rattle.mod_layout.specs.First.{first_in}
 use Rattle.mod_layout.specs.Table.{Table, place_of, size_of}
 use Rattle.mod_layout.specs.declared.Module.{Module}
 use Rattle.mod_layout.specs.declared.Place.TheVariants.{Data}
-use Rattle.mod_layout.specs.First.{first_in}
 use Rattle.pc_access.specs.Rights.{right, is_id}
 use Rattle.pc_access.specs.declared.Denied.{Denied}
 use Rattle.pc_access.specs.declared.Stop.{Stop}
@@ -19,9 +19,9 @@ use Rattle.reg_backup.specs.declared.backup.Backup.{Backup}
 use Rattle.reg_backup.specs.declared.backup.Phase.TheVariants.{Run}
 use Rattle.reg_backup.specs.declared.frames.Frame.{Frame}
 use Rattle.reg_backup.specs.declared.frames.Frame.TheVariants.{Plain, Module as Held}
-use Rattle.attest.specs.Accesses.{reads_of, writes_of}
-use Rattle.cpu_step.specs.Asked.{asks, effect}
-use Rattle.cpu_step.specs.Fetched.{later_word, insn_at}
+use Rattle.sm_words.specs.Words.{cleared, reg, bit, word_at}
+use Rattle.sm_words.specs.declared.width.Width.TheVariants.{Word}
+use Rattle.std.proofs.lemmas.Bool.{and_parts}
 use Rattle.tracer.specs.declared.Event.{Event}
 use Rattle.written_machine.specs.Cycle.{Step, pc_of, byte_of, vector_in, push_both, pushes, plain_if, arrive_outside, at_home, home_word, is_home, who_of, port_of, perform, attempt, returned_by, reti_by, act_on, act_home, act_first, act, unless}
 use Rattle.written_machine.specs.Ports.{take_reads, put_writes}
@@ -87,11 +87,8 @@ module _ (m : ℕ) (own : Module) (t : Table) (sound : Sound m own t) where
   vector_out : (a : ℕ) → 65504 ≤ a → Out own.ram.start (size_of own.ram) a
   vector_out a h low = let e = sound.own_ok.ram_ok.high in let o = sound.own_ok.ram_ok.order in omega arith
 
-  vector_cleared : (mem : List ℕ) (v : ℕ) → vector_in (cleared own.ram.start (size_of own.ram) mem) v ≡ vector_in mem v
+  pub vector_cleared : (mem : List ℕ) (v : ℕ) → vector_in (cleared own.ram.start (size_of own.ram) mem) v ≡ vector_in mem v
   vector_cleared mem v = word_cleared mem (65504 + 2 * v) (vector_out (65504 + 2 * v) (omega arith), vector_out (65504 + 2 * v + 1) (omega arith))
-
-  pub vector_veiled : (s : State) (v : ℕ) → vector_in (veil m own s).memory v ≡ vector_in s.memory v
-  vector_veiled s v = vector_cleared s.memory v
 
   -- ---- an arrival outside
   push_veiled : (d : Option Denied) (v : ℕ) (s : State) → (d ≡ None → Each (OutAccess own.ram.start (size_of own.ram)) (pushes s)) → unless d (veil m own s) (push_both v (veil m own s)) ≡ veil_step m own (unless d s (push_both v s))
@@ -142,13 +139,9 @@ module _ (m : ℕ) (own : Module) (t : Table) (sound : Sound m own t) where
     returned_veiled None u =
         ap (λ fs. let v : Step = record { state = record (veil m own u.state) { frames = fs }; events = Event.Reti ∷ u.events } in v) (without_newest_veiled u.state.frames)
 
-    attempt_reti : (let u = attempt Reti (veil m own s) in returned_by u.state.stop u) ≡ veil_step m own (let u = attempt Reti s in returned_by u.state.stop u)
-    attempt_reti =
-        ap (λ u. returned_by u.state.stop u) (attempt_veiled Reti) ∙ returned_veiled (attempt Reti s).state.stop (attempt Reti s)
-
     reti_veiled : (fs : List Frame) → reti_by None (veil_frames m fs) (veil m own s) ≡ veil_step m own (reti_by None fs s)
     reti_veiled (Held b ∷ fs) = refl
-    reti_veiled _ = attempt_reti
+    reti_veiled _ = ap (λ u. returned_by u.state.stop u) (attempt_veiled Reti) ∙ returned_veiled (attempt Reti s).state.stop (attempt Reti s)
 
     reti_of_veiled : (o : Option ℕ) → reti_by o (veil m own s).frames (veil m own s) ≡ veil_step m own (reti_by o s.frames s)
     reti_of_veiled (Some id) = refl

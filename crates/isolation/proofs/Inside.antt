@@ -1,42 +1,42 @@
 -- What the module does while it is active is what it does by itself.
 use Rattle.std.proofs.Common.{◌≡◌, ℕ, ◌+◌, ◌-◌, ◌*◌, ◌/◌, ◌%◌, List, [], ◌∷◌, get_or, set, map, refl, sym, ap, ◌∙◌, subst, arith, Bool, true, false, nat_lt, cond, not, ◌&&◌, ◌||◌, ◌==◌, Option, Some, None, ⊎_elim}
-use Rattle.std.proofs.lemmas.Bool.{cases_lt, not-true, and_parts, or_cases, or_right}
-use Rattle.std.proofs.lemmas.Bool.Decides.{nat_tests}
-use Rattle.std.specs.Option.{option_or}
-use Rattle.sm_words.specs.Words.{cleared, reg, word_at}
-use Rattle.sm_words.specs.declared.width.Width.{Width}
-use Rattle.sm_words.specs.declared.width.Width.TheVariants.{Byte, Word}
-use Rattle.insn_decode.specs.Code.{insn_of, length_of}
-use Rattle.insn_decode.specs.declared.insn.Insn.{Insn}
-use Rattle.insn_decode.specs.declared.insn.Insn.TheVariants.{Reti, Unit as UnitOp}
-use Rattle.mod_layout.specs.Table.{Table, place_of, module_of, size_of, holds}
-use Rattle.mod_layout.specs.declared.Module.{Module}
-use Rattle.mod_layout.specs.declared.Section.{Section}
-use Rattle.mod_layout.specs.First.{first_in}
-use Rattle.pc_access.specs.Rights.{right, right_at, misaligned, refuse_if}
-use Rattle.pc_access.specs.declared.Rule.TheVariants.{Misaligned}
-use Rattle.pc_access.specs.declared.Access.{Access}
-use Rattle.pc_access.specs.declared.Kind.{Kind}
-use Rattle.pc_access.specs.declared.Kind.TheVariants.{Fetch, Read, Write}
-use Rattle.pc_access.specs.declared.Rule.{Rule}
-use Rattle.reg_backup.specs.Held.{held_ids}
-use Rattle.reg_backup.specs.Saved.{closing_after}
-use Rattle.reg_backup.specs.declared.backup.Phase.TheVariants.{Run}
 use Rattle.attest.specs.Accesses.{is_read, is_write, reads_of, writes_of}
 use Rattle.attest.specs.Done.{own_of}
 use Rattle.attest.specs.Units.{Doer, UnitName, Unprotect, Protect, Attest, Tag, IdOf, OwnId, CallerId, unit_plan, unit_effect, Effect, table_by}
 use Rattle.cpu_step.specs.Asked.{asks, effect, table_after}
 use Rattle.cpu_step.specs.Fetched.{later_word, insn_at, word_in, insn_from, insn_in}
 use Rattle.cpu_step.specs.Lone.{Job, Lone, lone_byte, lone_who, is_alone, is_inside, all_inside, lone_read, lone_write, lone_writes, may_do, next_insn, lone_does}
+use Rattle.insn_decode.specs.Code.{insn_of, length_of}
+use Rattle.insn_decode.specs.declared.insn.Insn.{Insn}
+use Rattle.insn_decode.specs.declared.insn.Insn.TheVariants.{Reti, Unit as UnitOp}
+use Rattle.mod_layout.proofs.Found.{ends_of}
+use Rattle.mod_layout.specs.First.{first_in}
+use Rattle.mod_layout.specs.Table.{Table, place_of, module_of, size_of, holds}
+use Rattle.mod_layout.specs.declared.Module.{Module}
+use Rattle.mod_layout.specs.declared.Section.{Section}
+use Rattle.pc_access.specs.Rights.{right, right_at, misaligned, refuse_if}
+use Rattle.pc_access.specs.declared.Access.{Access}
+use Rattle.pc_access.specs.declared.Kind.TheVariants.{Fetch, Read, Write}
+use Rattle.pc_access.specs.declared.Rule.{Rule}
+use Rattle.pc_access.specs.declared.Rule.TheVariants.{Misaligned}
+use Rattle.reg_backup.specs.Held.{held_ids}
+use Rattle.reg_backup.specs.Saved.{closing_after}
+use Rattle.reg_backup.specs.declared.backup.Phase.TheVariants.{Run}
+use Rattle.sm_words.specs.Words.{cleared, reg, word_at}
+use Rattle.sm_words.specs.declared.width.Width.{Width}
+use Rattle.sm_words.specs.declared.width.Width.TheVariants.{Byte, Word}
+use Rattle.std.proofs.lemmas.Bool.{cases_lt, not-true, and_parts, or_cases, or_right}
+use Rattle.std.proofs.lemmas.Bool.Decides.{nat_tests}
 use Rattle.tracer.specs.declared.Event.TheVariants.{Protect as Made}
 use Rattle.written_machine.specs.Cycle.{Step, pc_of, byte_of, at_home, home_word, is_home, who_of, port_of, perform, attempt, act_on, act_home, act_first, act}
 use Rattle.written_machine.specs.Peers.{section}
 use Rattle.written_machine.specs.Ports.{Port, read_in, read_byte, read_width, write_byte, write_width, take_reads, put_writes}
 use Rattle.written_machine.specs.State.{State}
+use Rattle.std.specs.Option.{option_or}
+use Rattle.pc_access.specs.declared.Kind.{Kind}
 use Rattle.isolation.proofs.Bytes.{Out, get_part, part_set_in, part_set_out, cleared_set}
 use Rattle.isolation.proofs.Each.{Each}
 use Rattle.isolation.proofs.Rights.{Sound, own_id, holds_in, each_read, each_write, even_of}
-use Rattle.mod_layout.proofs.Found.{ends_of}
 
 -- a step of the active module
 pub record Moves (own : Module) (s : State) (l' : Lone) (u : Step) : Type 0 where
@@ -155,15 +155,12 @@ module _ (m : ℕ) (own : Module) (t : Table) (sound : Sound m own t) (j : Job) 
       let o = sound.own_ok.text_ok.order in
       ⊎_elim (λ lt. absurd (let k = holds_in own.text a low lt in let f = sound.apart a k in cc)) (λ ge. omega arith) (cases_lt a own.text.end)
 
-  ram_low' : (a : ℕ) → holds own.ram a ≡ true → nat_lt a 512 ≡ false
-  ram_low' a h = let r = sound.own_ok.ram_ok.low in grind (arith, nat_tests)
-
   write_byte_same : (p : Port) (a v : ℕ) → holds own.ram a ≡ true → Writes p (write_byte p a v) (set (section own.ram p.memory) (a - own.ram.start) v)
   write_byte_same p a v h =
       let r = ends_of own.ram a h in
       let lo = own.ram.start in
       let n = size_of own.ram in
-      rw (ram_low' a h) (record {
+      rw (not_low a (or_right (holds own.text a) (holds own.ram a) h)) (record {
         devices = refl;
         bytes = part_set_in lo n p.memory a v r.0 (omega (arith, r.0, r.1));
         rest = cleared_set lo n p.memory a v r.0 (omega (arith, r.0, r.1));

@@ -1,12 +1,12 @@
 -- What moves write, and where they lead.
 use Rattle.std.proofs.Common.{◌≡◌, ℕ, zero, suc, ◌+◌, List, [], ◌∷◌, ◌++◌, refl, sym, ap, ◌∙◌, arith}
-use Rattle.std.proofs.lemmas.Grind.{flat_map-append}
 use Rattle.std.proofs.lemmas.List.{append_assoc, append-nil}
 use Rattle.written_machine.specs.Cycle.{cycle, after_cycles}
-use Rattle.written_machine.specs.Marks.{Marked, at_state}
-use Rattle.written_machine.specs.Script.{Move, cycle_move, cycle_moves, led, moves_text}
 use Rattle.written_machine.specs.State.{State}
 use Rattle.written_machine.specs.Trace.{event_lines, lines_after}
+use Rattle.std.proofs.lemmas.Grind.{flat_map-append}
+use Rattle.written_machine.specs.Marks.{Marked, at_state}
+use Rattle.written_machine.specs.Script.{Move, cycle_move, cycle_moves, led, moves_text}
 
 -- moves one after another
 pub led_append : (g : Marked) (ms ns : List Move) → led g (ms ++ ns) ≡ led (led g ms) ns

@@ -1,20 +1,20 @@
 -- What the outside, handlers and other modules do keeps the relation.
 use Rattle.std.proofs.Common.{◌≡◌, ◌≢◌, ℕ, ◌%◌, List, [], ◌∷◌, refl, sym, ap, ◌∙◌, subst, arith, true, false, Option, Some, None, drop}
-use Rattle.sm_words.specs.Sums.{one_if}
-use Rattle.sm_words.specs.Words.{reg}
+use Rattle.attest.specs.Accesses.{reads_of, writes_of}
+use Rattle.cpu_step.specs.Asked.{asks, effect}
 use Rattle.insn_decode.specs.declared.insn.Insn.{Insn}
 use Rattle.insn_decode.specs.declared.insn.Insn.TheVariants.{Reti}
+use Rattle.mod_layout.specs.First.{first_in}
 use Rattle.mod_layout.specs.Table.{size_of, place_of}
 use Rattle.mod_layout.specs.declared.Module.{Module}
 use Rattle.mod_layout.specs.declared.Place.TheVariants.{Data}
-use Rattle.mod_layout.specs.First.{first_in}
 use Rattle.pc_access.specs.Rights.{is_id, right}
 use Rattle.pc_access.specs.declared.Stop.{Stop}
 use Rattle.reg_backup.specs.Held.{held_ids}
 use Rattle.reg_backup.specs.declared.frames.Frame.{Frame}
 use Rattle.reg_backup.specs.declared.frames.Frame.TheVariants.{Module as Held}
-use Rattle.attest.specs.Accesses.{reads_of, writes_of}
-use Rattle.cpu_step.specs.Asked.{asks, effect}
+use Rattle.sm_words.specs.Sums.{one_if}
+use Rattle.sm_words.specs.Words.{reg}
 use Rattle.written_machine.specs.Cycle.{Step, stopped, denied, pc_of, push_both, pushes, plain_if, arrive_outside, port_of, who_of, perform, attempt, returned_by, reti_by, act}
 use Rattle.written_machine.specs.Peers.{section}
 use Rattle.written_machine.specs.Ports.{take_reads}

@@ -1,19 +1,19 @@
 -- A handler begins 12 cycles after its hide.
 use Rattle.std.proofs.Common.{◌≡◌, ◌⊎◌, inl, inr, ⊎_elim, ℕ, zero, suc, ◌+◌, ◌-◌, List, [], ◌∷◌, ◌++◌, refl, sym, ap, ◌∙◌, subst, arith, true, false, Option, Some, None}
-use Rattle.schedule_file.specs.declared.Entry.{Entry as Scheduled}
-use Rattle.pc_access.specs.declared.Stop.{Stop}
 use Rattle.image_text.specs.Image.{Image}
+use Rattle.isolation.specs.Calls.{Hides, Handles, rest_of}
+use Rattle.pc_access.specs.declared.Stop.{Stop}
 use Rattle.reg_backup.specs.declared.backup.After.TheVariants.{Next, Handler}
 use Rattle.reg_backup.specs.declared.backup.Phase.TheVariants.{Run, Pad}
+use Rattle.schedule_file.specs.declared.Entry.{Entry as Scheduled}
 use Rattle.tracer.specs.declared.Event.{Event}
+use Rattle.written_machine.proofs.Stops.{cycle_by}
 use Rattle.written_machine.specs.Cycle.{Step, Settled, quiet, told, unsettled, pc_of, settle_by, settle_in, settle, ticked, due, padded, turn, sent_event, counted_by, move, cycle, after_cycles}
 use Rattle.written_machine.specs.State.{State}
 use Rattle.written_machine.specs.View.{at}
-use Rattle.written_machine.proofs.Stops.{cycle_by}
-use Rattle.isolation.specs.Calls.{Hides, Handles, rest_of}
-use Rattle.isolation.proofs.Tame.{Calm, is_handler, closing_calm, turned, turn_late, Late, bare_hides, late_handles, hides_more, hides_front, cycle_number, ticked_stop}
+use Rattle.isolation.proofs.Tame.{Calm, is_handler, closing_calm, turned, settle_same, move_later, bare_hides, late_handles, hides_more, hides_front, cycle_number, ticked_stop}
 use Rattle.isolation.proofs.Cases.{turn_at, turn_is}
-use Rattle.isolation.proofs.Ways.{sent_tells, counted_holds, settle_ways, or_unsettled}
+use Rattle.isolation.proofs.Ways.{turn_tells, sent_tells, counted_holds, settle_ways, or_unsettled}
 
 -- ---- settling where no handler is due
 record Settles (u : Settled) : Type 0 where
@@ -57,31 +57,11 @@ handler_settles : (s : State) → s.phase ≡ Run 0 → s.after ≡ Handler → 
 unfolding settle
 handler_settles s p a = ap (λ x. or_unsettled (settle_in x s) s) p ∙ ap (λ x. or_unsettled (settle_by x s) s) a
 
-handles_front : (xs ys : List Event) (pc : ℕ) → xs ≡ Event.Handler pc ∷ [] → Handles (xs ++ ys)
-handles_front xs ys pc e = subst (λ l. Handles (l ++ ys)) (sym e) tt
-
-counted_handles : (o : Option Stop) (es : List Event) (t : Step) (pc : ℕ) → es ≡ Event.Handler pc ∷ [] → Handles (counted_by o (told es t)).events
-counted_handles (Some stop) es t pc e = handles_front es t.events pc e
-counted_handles None es t pc e = subst (λ l. Handles ((l ++ t.events) ++ sent_event t.state.devices.sent)) (sym e) tt
-
 move_handles : (s : State) → s.phase ≡ Run 0 → s.after ≡ Handler → Handles (move s).events
-unfolding move ticked
+unfolding ticked
 move_handles s p a =
-    let u = settle (ticked s) in
-    let t = turn u.left u.state in
-    counted_handles t.state.stop u.events t (pc_of (ticked s)) (ap (λ x. x.events) (handler_settles (ticked s) p a))
-
-counted_none : (o : Option Stop) (es : List Event) (t : Step) → Late t.events → Handles (counted_by o (told es t)).events → Handles es
-counted_none (Some stop) es t l h = late_handles es t.events l h
-counted_none None es t l h = late_handles es t.events l
-    (late_handles (es ++ t.events) (sent_event t.state.devices.sent) (sent_tells Late tt (λ b. (tt, tt)) t.state.devices.sent) h)
-
-move_none : (s : State) → Handles (move s).events → Handles (settle (ticked s)).events
-unfolding move
-move_none s h =
-    let u = settle (ticked s) in
-    let t = turn u.left u.state in
-    counted_none t.state.stop u.events t (turn_late u.left u.state) h
+    let l = move_later s in
+    subst Handles (sym l.is) (subst (λ es. Handles (es ++ l.rest)) (sym (ap (λ x. x.events) (handler_settles (ticked s) p a))) tt)
 
 counted_hides : (o : Option Stop) (es : List Event) (t : Step) → Hides t.events → Hides (counted_by o (told es t)).events
 counted_hides (Some stop) es t h = hides_more es t.events h
@@ -172,7 +152,8 @@ module _ (a : Image) (schedule : List Scheduled) where
   hidden_before k h =
       let s = at a schedule k in
       let run = runs_by s.stop s refl h in
-      let told_by = move_none s (subst (λ t. Handles t.events) (same_move k run) h) in
+      let l = move_later s in
+      let told_by = late_handles (settle (ticked s)).events l.rest l.late (subst Handles l.is (subst (λ t. Handles t.events) (same_move k run) h)) in
       ⊎_elim
       (λ c. absurd ((settle_calm (ticked s) (ticked_calm s c)).none told_by))
       (λ x. ⊎_elim (λ p. absurd (pad_none k p.left p.phase told_by)) (λ g. (g.hid, g.number, g.hides)) x)
@@ -184,16 +165,9 @@ hides_split [] ys h = inr h
 hides_split (Event.Hide id v ∷ xs) ys h = inl tt
 hides_split (_ ∷ xs) ys h = hides_split xs ys h
 
--- settling tells of no hide, and stops nothing
-record Plainly (s : State) (u : Settled) : Type 0 where
-  none : Hides u.events → ⊥
-  stop : u.state.stop ≡ s.stop
-
-settle_plainly : (s : State) → Plainly s (settle s)
-settle_plainly s =
-    settle_ways s (Plainly s) (record { none = λ x. x; stop = refl })
-    (λ b fs e. record { none = λ x. x; stop = refl }) (λ id x a o. record { none = λ x. x; stop = refl }) (λ e. record { none = λ x. x; stop = refl })
-    (λ id a. record { none = λ x. x; stop = refl })
+-- settling tells of no hide
+settle_bare : (s : State) → Hides (settle s).events → ⊥
+settle_bare s = settle_ways s (λ u. Hides u.events → ⊥) (λ x. x) (λ b fs e x. x) (λ id x a o h. h) (λ e x. x) (λ id a x. x)
 
 -- where a module was hidden, it pads
 abbrev Padded : State → Type 0
@@ -203,20 +177,12 @@ turn_hides : (left : ℕ) (s : State) → s.stop ≡ None → Hides (turn left s
 turn_hides left s e h =
     ⊎_elim (λ t. absurd (bare_hides (turn left s).events t.bare h)) (λ x. ⊎_elim (λ b. (b.phase, b.stop ∙ e)) (λ p. absurd (subst (λ u. Hides u.events) p.is h)) x) (turned left s)
 
-counted_hid : (o : Option Stop) (es : List Event) (t : Step) → (Hides es → ⊥) → Hides (counted_by o (told es t)).events → Hides t.events
-counted_hid (Some stop) es t n h = ⊎_elim (λ x. absurd (n x)) (λ x. x) (hides_split es t.events h)
-counted_hid None es t n h =
-    ⊎_elim (λ y. ⊎_elim (λ x. absurd (n x)) (λ x. x) (hides_split es t.events y))
-    (λ x. absurd (sent_tells (λ es. Hides es → ⊥) (λ h. h) (λ b h. h) t.state.devices.sent x))
-    (hides_split (es ++ t.events) (sent_event t.state.devices.sent) h)
-
 move_hides : (s : State) → s.stop ≡ None → Hides (move s).events → Padded (move s).state
 unfolding move
 move_hides s e h =
-    let q = settle_plainly (ticked s) in
     let u = settle (ticked s) in
     let t = turn u.left u.state in
-    let p = turn_hides u.left u.state (q.stop ∙ ticked_stop s ∙ e) (counted_hid t.state.stop u.events t q.none h) in
+    let p = turn_hides u.left u.state ((settle_same (ticked s)).2 ∙ ticked_stop s ∙ e) (turn_tells Hides hides_split (sent_tells (λ es. Hides es → ⊥) (λ h. h) (λ b h. h)) t.state.stop u.events t (settle_bare (ticked s)) h) in
     counted_holds Padded (λ v k g. g) t.state.stop (told u.events t) p
 
 cycle_hides : (o : Option Stop) (s : State) → s.stop ≡ o → Hides (cycle_by o s).events → Padded (cycle_by o s).state

@@ -1,20 +1,21 @@
 -- Cycles of padding, of the rest of an instruction and of sleep only pass.
 use Rattle.std.proofs.Common.{◌≡◌, ℕ, zero, suc, ◌+◌, ◌-◌, ◌≤◌, ◌<◌, ◌==◌, List, [], ◌∷◌, refl, sym, ◌∙◌, ap, subst, arith, Bool, true, Option, Some, None}
-use Rattle.schedule_file.specs.declared.Entry.{Entry}
-use Rattle.schedule_file.specs.declared.What.{What}
-use Rattle.schedule_file.specs.declared.What.TheVariants.{Serial}
-use Rattle.devices.proofs.Acting.{happens_if, counts_by}
 use Rattle.devices.specs.Devices.{Devices, ticked_devices, scheduled}
-use Rattle.irq_padding.specs.Padding.{padding}
 use Rattle.pc_access.specs.declared.Stop.{Stop}
 use Rattle.reg_backup.specs.declared.backup.After.{After}
 use Rattle.reg_backup.specs.declared.backup.After.TheVariants.{Next}
 use Rattle.reg_backup.specs.declared.backup.Phase.{Phase}
 use Rattle.reg_backup.specs.declared.backup.Phase.TheVariants.{Run, Pad}
-use Rattle.written_machine.specs.Cycle.{Step, Settled, quiet, told, ticked, unsettled, settle, padded, turn, due, sent_event, counted_by, move, cycle, after_cycles}
-use Rattle.written_machine.specs.Passing.{due_after, Calm, OnlyPass, Pads, WaitsOutside, Waits, Sleeps, passed, Leads, asleep}
-use Rattle.written_machine.specs.State.{State}
 use Rattle.written_machine.proofs.Stops.{cycle_by}
+use Rattle.written_machine.specs.Cycle.{Step, Settled, quiet, told, ticked, unsettled, settle, padded, turn, due, sent_event, counted_by, move, cycle, after_cycles}
+use Rattle.written_machine.specs.Passing.{due_after, Calm, OnlyPass, Pads, WaitsOutside, Sleeps, passed, Leads, asleep}
+use Rattle.written_machine.specs.State.{State}
+use Rattle.schedule_file.specs.declared.Entry.{Entry}
+use Rattle.schedule_file.specs.declared.What.{What}
+use Rattle.schedule_file.specs.declared.What.TheVariants.{Serial}
+use Rattle.devices.proofs.Acting.{happens_if, counts_by}
+use Rattle.irq_padding.specs.Padding.{padding}
+use Rattle.written_machine.specs.Passing.{Waits}
 use Rattle.isolation.proofs.Cases.{turn_at, turn_unless, turn_is}
 
 -- ---- a tick leaves no byte that was sent

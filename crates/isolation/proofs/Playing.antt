@@ -1,43 +1,38 @@
 -- Peers play a script alike, with its marks: what both do leads to the same cycles, and writes the same.
-use Rattle.schedule_file.specs.declared.Entry.{Entry as Scheduled}
 use Rattle.image_text.specs.Image.{Image}
-use Rattle.texts.specs.Hexadecimals.{hex_word}
-use Rattle.std.specs.Prelude.{codes}
-use Rattle.std.specs.Fmt.{decimal}
-use Rattle.std.specs.List.{slice_get}
-use Rattle.std.specs.Option.{option_and_then}
+use Rattle.schedule_file.specs.declared.Entry.{Entry as Scheduled}
+use Rattle.std.proofs.lemmas.List.{map-append, length-map, take-map}
 use Rattle.written_machine.specs.Cycle.{after_cycles}
-use Rattle.written_machine.specs.Marks.{Marked, at_state, cut_at, last_from}
 use Rattle.written_machine.specs.Peers.{Peers}
-use Rattle.written_machine.specs.Script.{Move, regs_text, mem_text, mark_text, back_text, no_mark_text, last_text, not_there_text, at_cycle, cycle_moves, mark_move, back_move, last_move, line_moves, led, moves, moves_text, play}
 use Rattle.written_machine.specs.Standing.{stands_at, one_more_unless, cycles_until, this_or, last_standing}
 use Rattle.written_machine.specs.State.{State}
 use Rattle.written_machine.specs.View.{at}
+use Rattle.std.specs.List.{slice_get}
+use Rattle.std.specs.Option.{option_and_then}
+use Rattle.written_machine.specs.Marks.{Marked, at_state, cut_at, last_from}
+use Rattle.written_machine.specs.Script.{Move, regs_text, mem_text, mark_text, back_text, no_mark_text, last_text, not_there_text, cycle_moves, mark_move, back_move, last_move, line_moves, led, moves, moves_text, play}
 use Rattle.written_machine.specs.declared.ScriptLine.{ScriptLine}
 use Rattle.written_machine.specs.declared.ScriptLine.TheVariants.{Go, Until, Regs, Mem, Mark, Back, Last}
 use Rattle.std.proofs.Common.{◌≡◌, ℕ, zero, suc, ◌+◌, ◌-◌, List, [], ◌∷◌, ◌++◌, take, refl, sym, ap, ◌∙◌, Bool, true, false, nat_lt, cond, Option, Some, None, option_map}
-use Rattle.std.proofs.lemmas.List.{map-append, length-map, take-map}
 use Rattle.std.proofs.lemmas.Option.{slice_get-map}
 use Rattle.isolation.specs.Moments.{moment}
 use Rattle.isolation.proofs.Moves.{text_append, led_append, led_cycles, text_cycles}
-use Rattle.isolation.proofs.Telling.{cycles_same, lines_from, ends_same, stands_same, outside_equal}
+use Rattle.isolation.proofs.Telling.{cycles_while, lines_while, ends_while, stands_same, outside_equal}
+use Rattle.isolation.proofs.Whole.{none_differs}
 use Rattle.isolation.proofs.Follow.{after_more}
 
--- a text with a cycle number, by the number
-at_cycle_same : (x y : Marked) → x.present.cycle ≡ y.present.cycle → at_cycle x ≡ at_cycle y
-at_cycle_same x y c = ap (λ n. codes " at " ++ (decimal n ++ codes "\n")) c
-
+-- texts with a cycle number, by the number
 mark_text_same : (j k : ℕ) (x y : Marked) → j ≡ k → x.present.cycle ≡ y.present.cycle → mark_text j x ≡ mark_text k y
 unfolding mark_text
-mark_text_same j k x y e c = ap (λ n. codes "mark " ++ (decimal n ++ at_cycle x)) e ∙ ap (λ l. codes "mark " ++ (decimal k ++ l)) (at_cycle_same x y c)
+mark_text_same j k x y e c = rw (e, c) refl
 
 back_text_same : (k : ℕ) (x y : Marked) → x.present.cycle ≡ y.present.cycle → back_text k x ≡ back_text k y
 unfolding back_text
-back_text_same k x y c = ap (λ l. codes "back " ++ (decimal k ++ l)) (at_cycle_same x y c)
+back_text_same k x y c = rw c refl
 
 last_text_same : (addr : ℕ) (x y : Marked) → x.present.cycle ≡ y.present.cycle → last_text addr x ≡ last_text addr y
 unfolding last_text
-last_text_same addr x y c = ap (λ l. codes "last " ++ (hex_word addr ++ l)) (at_cycle_same x y c)
+last_text_same addr x y c = rw c refl
 
 module _ (a b : Image) (m : ℕ) (schedule : List Scheduled) (peers : Peers a b m) (most : ℕ) where
   abbrev at_a : ℕ → List ℕ → Marked
@@ -45,6 +40,9 @@ module _ (a b : Image) (m : ℕ) (schedule : List Scheduled) (peers : Peers a b 
 
   abbrev at_b : ℕ → List ℕ → Marked
   at_b k ks = moment b schedule most k ks
+
+  cycles_same : (k : ℕ) → (at a schedule k).cycle ≡ (at b schedule k).cycle
+  cycles_same k = cycles_while a b m [] schedule peers k (none_differs a b m schedule k)
 
   -- both machines stand after the same cycles, with marks after the same
   record Alike (x y : Marked) : Type 0 where
@@ -71,7 +69,7 @@ module _ (a b : Image) (m : ℕ) (schedule : List Scheduled) (peers : Peers a b 
       let x = at_a k ks in
       let y = at_b k ks in
       record {
-        text = text_cycles x n ∙ lines_from a b m schedule peers k n ∙ sym (text_cycles y n);
+        text = text_cycles x n ∙ lines_while a b m [] schedule peers k n (none_differs a b m schedule (n + k)) ∙ sym (text_cycles y n);
         leads = record {
           number = n + k;
           numbers = ks;
@@ -92,7 +90,7 @@ module _ (a b : Image) (m : ℕ) (schedule : List Scheduled) (peers : Peers a b 
       Same x y (mark_move x (cond c (Some (record x { marks = x.marks ++ x.present ∷ [] })) None) ∷ []) (mark_move y (cond d (Some (record y { marks = y.marks ++ y.present ∷ [] })) None) ∷ []))
   mark_by k ks true true e =
       let count = length-map ks (at a schedule) ∙ sym (length-map ks (at b schedule)) in
-      one_move _ _ _ _ (mark_text_same _ _ _ _ count (cycles_same a b m schedule peers k)) (record {
+      one_move _ _ _ _ (mark_text_same _ _ _ _ count (cycles_same k)) (record {
         number = k;
         numbers = ks ++ k ∷ [];
         one = ap (λ l. let x = at_a k ks in record x { marks = l }) (sym (map-append (at a schedule) ks (k ∷ [])));
@@ -118,7 +116,7 @@ module _ (a b : Image) (m : ℕ) (schedule : List Scheduled) (peers : Peers a b 
   back_by : (j k : ℕ) (ks : List ℕ) (o : Option ℕ) (p q : Option State) → p ≡ option_map (at a schedule) o → q ≡ option_map (at b schedule) o
       → Same (at_a k ks) (at_b k ks) (back_move j (at_a k ks) (option_map (cut_at j (at_a k ks)) p) ∷ [])
       (back_move j (at_b k ks) (option_map (cut_at j (at_b k ks)) q) ∷ [])
-  back_by j k ks (Some i) p q e f = rw (e, f) (one_move _ _ _ _ (back_text_same j _ _ (cycles_same a b m schedule peers i)) (cut_alike j k ks i))
+  back_by j k ks (Some i) p q e f = rw (e, f) (one_move _ _ _ _ (back_text_same j _ _ (cycles_same i)) (cut_alike j k ks i))
   back_by j k ks None p q e f = rw (e, f) (one_move _ _ _ _ refl (still k ks))
 
   back_same : (j k : ℕ) (ks : List ℕ) → Same (at_a k ks) (at_b k ks) (line_moves (at_a k ks) (Back j)) (line_moves (at_b k ks) (Back j))
@@ -147,7 +145,7 @@ module _ (a b : Image) (m : ℕ) (schedule : List Scheduled) (peers : Peers a b 
   last_found : (addr j k : ℕ) (ks : List ℕ) (o : Option ℕ) (p q : Option State) → p ≡ option_map (at a schedule) o → q ≡ option_map (at b schedule) o
       → Same (at_a k ks) (at_b k ks) (last_move addr j (at_a k ks) (option_map (cut_at j (at_a k ks)) p) ∷ [])
       (last_move addr j (at_b k ks) (option_map (cut_at j (at_b k ks)) q) ∷ [])
-  last_found addr j k ks (Some i) p q e f = rw (e, f) (one_move _ _ _ _ (last_text_same addr _ _ (cycles_same a b m schedule peers i)) (cut_alike j k ks i))
+  last_found addr j k ks (Some i) p q e f = rw (e, f) (one_move _ _ _ _ (last_text_same addr _ _ (cycles_same i)) (cut_alike j k ks i))
   last_found addr j k ks None p q e f =
       let count = length-map ks (at a schedule) ∙ sym (length-map ks (at b schedule)) in
       rw (e, f) (one_move _ _ _ _ (ap (λ n. cond (nat_lt j n) (not_there_text addr) (no_mark_text j)) count) (still k ks))
@@ -159,7 +157,7 @@ module _ (a b : Image) (m : ℕ) (schedule : List Scheduled) (peers : Peers a b 
       let x = at_a k ks in
       let y = at_b k ks in
       let n = (at a schedule k).cycle - (at a schedule i).cycle in
-      let same_n : (at b schedule k).cycle - (at b schedule i).cycle ≡ n = ap (λ c. c - (at b schedule i).cycle) (sym (cycles_same a b m schedule peers k)) ∙ ap (λ c. (at a schedule k).cycle - c) (sym (cycles_same a b m schedule peers i)) in
+      let same_n : (at b schedule k).cycle - (at b schedule i).cycle ≡ n = ap (λ c. c - (at b schedule i).cycle) (sym (cycles_same k)) ∙ ap (λ c. (at a schedule k).cycle - c) (sym (cycles_same i)) in
       let l = last_both addr i n in
       last_found addr j k ks l.found _ _
       (ap (option_and_then (last_from addr x)) e ∙ l.one)
@@ -182,7 +180,7 @@ module _ (a b : Image) (m : ℕ) (schedule : List Scheduled) (peers : Peers a b 
 
   -- ---- a script
   pub plays_equal : (ls : List ScriptLine) (k : ℕ) (ks : List ℕ) → play (at_a k ks) ls ≡ play (at_b k ks) ls
-  plays_equal [] k ks = ap (λ t. t ++ []) (ends_same a b m schedule peers k)
+  plays_equal [] k ks = ap (λ t. t ++ []) (ends_while a b m [] schedule peers k (none_differs a b m schedule k))
   plays_equal (l ∷ ls) k ks =
       let x = at_a k ks in
       let y = at_b k ks in

@@ -1,12 +1,12 @@
 -- Reads and writes that stay out of a section do not see what stands there.
 use Rattle.std.proofs.Common.{◌≡◌, ℕ, ◌+◌, ◌/◌, ◌%◌, List, [], ◌∷◌, take, drop, refl, ap, ◌∙◌, Bool, true, false, nat_lt}
+use Rattle.pc_access.specs.declared.Access.{Access}
+use Rattle.sm_words.specs.Words.{cleared}
 use Rattle.sm_words.specs.declared.width.Width.{Width}
 use Rattle.sm_words.specs.declared.width.Width.TheVariants.{Byte, Word}
-use Rattle.pc_access.specs.declared.Access.{Access}
 use Rattle.written_machine.specs.Ports.{Port, Got, read_in, read_byte, write_in, write_byte, read_width, write_width, take_reads, put_writes}
 use Rattle.isolation.proofs.Bytes.{Out, get_cleared, set_cleared, part_set_out}
 use Rattle.isolation.proofs.Each.{Each}
-use Rattle.sm_words.specs.Words.{cleared}
 
 -- all bytes of an access are out of the section
 abbrev pub OutBy : Width → ℕ → ℕ → ℕ → Type 0

@@ -1,17 +1,15 @@
 -- A cycle is stopped by the first of its checks that is refused, and by nothing else.
 use Rattle.std.proofs.Common.{◌≡◌, ℕ, zero, suc, List, ◌∷◌, map, refl, sym, ap, ◌∙◌, Bool, true, false, not, Option, Some, None, is_none}
-use Rattle.std.specs.Option.{option_or}
-use Rattle.isolation.proofs.Tame.{ticked_stop}
-use Rattle.isolation.proofs.Ways.{counted_holds, enter_ways}
+use Rattle.attest.specs.Units.{Doer, UnitName, Unprotect, unit_plan}
+use Rattle.cpu_step.specs.Asked.{asks}
+use Rattle.cpu_step.specs.Fetched.{insn_at, later_word}
 use Rattle.insn_decode.specs.Code.{insn_of, length_of, length_or_one, length_at}
 use Rattle.insn_decode.specs.declared.insn.Insn.{Insn}
 use Rattle.insn_decode.specs.declared.insn.Insn.TheVariants.{Reti, Unit as UnitOp}
-use Rattle.insn_decode.proofs.Unread.{none_outside, outside_none}
+use Rattle.mod_layout.specs.First.{first_in, first_of}
 use Rattle.mod_layout.specs.Table.{place_of}
 use Rattle.mod_layout.specs.declared.Place.{Place}
 use Rattle.mod_layout.specs.declared.Place.TheVariants.{Open, Entry}
-use Rattle.mod_layout.specs.First.{first_in, first_of}
-use Rattle.mod_layout.proofs.FirstLemmas.{first_of_map}
 use Rattle.pc_access.specs.Rights.{right, refuse_if}
 use Rattle.pc_access.specs.declared.Access.{Access}
 use Rattle.pc_access.specs.declared.Denied.{Denied}
@@ -23,15 +21,16 @@ use Rattle.reg_backup.specs.declared.backup.Phase.{Phase}
 use Rattle.reg_backup.specs.declared.backup.Phase.TheVariants.{Run, Pad}
 use Rattle.reg_backup.specs.declared.frames.Frame.{Frame}
 use Rattle.reg_backup.specs.declared.frames.Frame.TheVariants.{Module as Held}
-use Rattle.attest.specs.Units.{Doer, UnitName, Unprotect, unit_plan}
-use Rattle.cpu_step.specs.Asked.{asks}
-use Rattle.cpu_step.specs.Fetched.{insn_at, later_word}
-use Rattle.written_machine.specs.Checks.{active_at, entered, first_word, insn_at_pc, asked_to_return, asked_by, returns_inside, check_of, later_checks, insn_checks, stop_at, stop_of, refused_in}
-use Rattle.written_machine.specs.Cycle.{Step, told, pc_of, byte_of, settle, ticked, due, arrive_inside, arrive_outside, push_both, pushes, who_of, perform, attempt, returned_by, reti_by, act_on, act_home, act_first, act, is_home, enter_at, enter, fetch, begin, turn, move, cycle, unless}
-use Rattle.written_machine.specs.State.{State}
 use Rattle.written_machine.proofs.Stops.{cycle_by}
+use Rattle.written_machine.specs.Cycle.{Step, told, pc_of, byte_of, settle, ticked, due, arrive_inside, arrive_outside, push_both, pushes, who_of, perform, attempt, returned_by, reti_by, act_on, act_home, act_first, act, is_home, enter_at, enter, fetch, begin, turn, move, cycle, unless}
 use Rattle.written_machine.specs.Passing.{asleep}
-use Rattle.isolation.proofs.Told.{settle_settles}
+use Rattle.written_machine.specs.State.{State}
+use Rattle.std.specs.Option.{option_or}
+use Rattle.isolation.proofs.Tame.{settle_same, ticked_stop}
+use Rattle.isolation.proofs.Ways.{counted_holds, enter_ways}
+use Rattle.insn_decode.proofs.Unread.{none_outside, outside_none}
+use Rattle.mod_layout.proofs.FirstLemmas.{first_of_map}
+use Rattle.written_machine.specs.Checks.{active_at, entered, first_word, insn_at_pc, asked_to_return, asked_by, returns_inside, check_of, later_checks, insn_checks, stop_at, stop_of, refused_in}
 use Rattle.isolation.proofs.Cases.{turn_at, turn_unless, turn_is, checks_at, checks_unless, checks_are}
 
 -- the step leaves the machine stopped by this refusal in this state, and running where there is none
@@ -44,14 +43,13 @@ Stops t d s = t.state.stop ≡ stop_at d s
 abbrev refusal : List Access → State → Option Denied
 refusal xs s = first_in (right s.table s.active (held_ids s.frames)) xs
 
-unless_stops : (d : Option Denied) (insn : Insn) (s : State) → s.stop ≡ None → Stops (unless d s (perform insn s)) d s
-unfolding perform
-unless_stops (Some d) insn s h = refl
-unless_stops None insn s h = h
+unless_stops : (d : Option Denied) (t : Step) (s : State) → t.state.stop ≡ None → Stops (unless d s t) d s
+unless_stops (Some d) t s h = refl
+unless_stops None t s h = h
 
 attempt_stops : (insn : Insn) (s : State) → s.stop ≡ None → Stops (attempt insn s) (refusal (asks (who_of s) insn s.core) s) s
-unfolding attempt
-attempt_stops insn s h = unless_stops (refusal (asks (who_of s) insn s.core) s) insn s h
+unfolding attempt perform
+attempt_stops insn s h = unless_stops (refusal (asks (who_of s) insn s.core) s) (perform insn s) s h
 
 returned_stop : (o : Option Stop) (t : Step) → (returned_by o t).state.stop ≡ t.state.stop
 returned_stop (Some stop) t = refl
@@ -184,14 +182,10 @@ asleep_stops : (x : Bool) (left : ℕ) (s : State) → s.stop ≡ None → Stops
 asleep_stops true left s h = h
 asleep_stops false left s h = begin_stops left s h
 
-push_stops : (d : Option Denied) (v : ℕ) (s : State) → s.stop ≡ None → Stops (unless d s (push_both v s)) d s
-push_stops (Some d) v s h = refl
-push_stops None v s h = h
-
 outside_stops : (v : ℕ) (s : State) → s.stop ≡ None → Stops (arrive_outside v s) (first_of (map (check_of None s) (pushes s))) s
 unfolding arrive_outside
 outside_stops v s h =
-    push_stops (first_in (right s.table None (held_ids s.frames)) (pushes s)) v s h ∙ ap (λ d. stop_at d s) (sym (first_of_map (right s.table None (held_ids s.frames)) (pushes s)))
+    unless_stops (first_in (right s.table None (held_ids s.frames)) (pushes s)) (push_both v s) s h ∙ ap (λ d. stop_at d s) (sym (first_of_map (right s.table None (held_ids s.frames)) (pushes s)))
 
 by_stops : (d a : Option ℕ) (p : Phase) (left : ℕ) (s : State) → s.stop ≡ None → Stops (turn_at d a p left s) (first_of (checks_at d a p s)) s
 unfolding arrive_inside
@@ -215,7 +209,7 @@ move_stops s h =
     let u = settle (ticked s) in
     let t = turn u.left u.state in
     counted_holds (λ v. v.stop ≡ refused_in s) (λ v k g. g) t.state.stop (told u.events t)
-    (turn_stops u.left u.state ((settle_settles (ticked s)).1 ∙ ticked_stop s ∙ h))
+    (turn_stops u.left u.state ((settle_same (ticked s)).2 ∙ ticked_stop s ∙ h))
 
 -- a machine that runs is stopped by the first check that is refused, and by nothing else
 pub refused_told : (s : State) → s.stop ≡ None → (cycle s).state.stop ≡ refused_in s

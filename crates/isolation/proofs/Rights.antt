@@ -1,23 +1,23 @@
 -- What is allowed to others stays out of the module's data.
 use Rattle.std.proofs.Common.{◌≡◌, ◌≢◌, ◌⊎◌, ℕ, ◌+◌, ◌%◌, ◌≤◌, List, [], ◌∷◌, refl, ap, subst, arith, Bool, true, false, cond, not, ◌==◌, Option, Some, None, ⊎_elim}
-use Rattle.std.proofs.lemmas.Bool.{cases_lt}
-use Rattle.std.proofs.lemmas.Bool.Decides.{nat_tests}
-use Rattle.pc_access.proofs.RightLemmas.{aligned_both, refused_not}
-use Rattle.sm_words.specs.declared.width.Width.{Width}
-use Rattle.sm_words.specs.declared.width.Width.TheVariants.{Byte, Word}
+use Rattle.attest.specs.Accesses.{is_read, is_write, reads_of, writes_of}
+use Rattle.mod_layout.proofs.TableLemmas.{Apart}
+use Rattle.mod_layout.specs.First.{first_in}
 use Rattle.mod_layout.specs.Table.{Table, place_of, module_of, size_of, holds}
 use Rattle.mod_layout.specs.Tables.{IsModule, IsTable}
 use Rattle.mod_layout.specs.declared.Module.{Module}
 use Rattle.mod_layout.specs.declared.Place.TheVariants.{Entry, Text, Data}
-use Rattle.mod_layout.specs.First.{first_in}
-use Rattle.mod_layout.proofs.FirstLemmas.{both_none}
 use Rattle.pc_access.specs.Rights.{right, right_at, misaligned, is_id}
 use Rattle.pc_access.specs.declared.Access.{Access}
-use Rattle.pc_access.specs.declared.Kind.{Kind}
 use Rattle.pc_access.specs.declared.Kind.TheVariants.{Read, Write}
 use Rattle.pc_access.specs.declared.Rule.TheVariants.{ReadData, WriteData}
-use Rattle.attest.specs.Accesses.{is_read, is_write, reads_of, writes_of}
-use Rattle.mod_layout.proofs.TableLemmas.{Apart}
+use Rattle.sm_words.specs.declared.width.Width.{Width}
+use Rattle.sm_words.specs.declared.width.Width.TheVariants.{Byte, Word}
+use Rattle.std.proofs.lemmas.Bool.{cases_lt}
+use Rattle.std.proofs.lemmas.Bool.Decides.{nat_tests}
+use Rattle.pc_access.proofs.RightLemmas.{aligned_both, refused_not}
+use Rattle.mod_layout.proofs.FirstLemmas.{both_none}
+use Rattle.pc_access.specs.declared.Kind.{Kind}
 pub use Rattle.mod_layout.proofs.Found.{within as holds_in}
 use Rattle.isolation.proofs.Bytes.{Out}
 use Rattle.isolation.proofs.Each.{Each}

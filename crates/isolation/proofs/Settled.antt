@@ -1,18 +1,18 @@
 -- Ticking, settling, arriving and waiting keep the relation.
 use Rattle.std.proofs.Common.{◌≡◌, ℕ, ◌+◌, List, ◌∷◌, refl, sym, ap, ◌∙◌, arith, Bool, true, false, ◌==◌, Some}
-use Rattle.std.proofs.lemmas.Bool.Decides.{nat_tests}
-use Rattle.sm_words.specs.Sums.{one_if}
+use Rattle.attest.specs.Done.{own_of}
+use Rattle.devices.specs.Devices.{Devices}
 use Rattle.mod_layout.specs.Table.{size_of}
 use Rattle.mod_layout.specs.declared.Module.{Module}
 use Rattle.pc_access.specs.Rights.{is_id}
-use Rattle.devices.specs.Devices.{Devices}
 use Rattle.reg_backup.specs.Saved.{closing_after, is_close}
 use Rattle.reg_backup.specs.declared.backup.After.TheVariants.{Next}
 use Rattle.reg_backup.specs.declared.backup.Backup.{Backup}
 use Rattle.reg_backup.specs.declared.backup.Phase.TheVariants.{Run}
 use Rattle.reg_backup.specs.declared.frames.Frame.{Frame}
 use Rattle.reg_backup.specs.declared.frames.Frame.TheVariants.{Module as Held}
-use Rattle.attest.specs.Done.{own_of}
+use Rattle.sm_words.specs.Sums.{one_if}
+use Rattle.std.proofs.lemmas.Bool.Decides.{nat_tests}
 use Rattle.written_machine.specs.Cycle.{ticked, close_of, leave_if, settle, arrive_inside}
 use Rattle.written_machine.specs.State.{State}
 use Rattle.isolation.proofs.Bytes.{part_cleared}
@@ -47,9 +47,6 @@ module _ (m : ℕ) (own : Module) (key text : List ℕ) where
   ticked_stays s k = passing_stays s _ s.cycle k
 
   module _ (s : State) (k : Keeps m own key text s) (other : is_id m s.active ≡ false) where
-    self : St s s
-    self = stays_self m own key text s k
-
     -- a module is resumed
     resumed_state : Backup → List Frame → State
     resumed_state b fs = record s { core = b.core; active = Some b.module; caller = b.caller; frames = fs; phase = Run b.rest; after = closing_after b.closing }
@@ -86,7 +83,7 @@ module _ (m : ℕ) (own : Module) (key text : List ℕ) where
     pub settle_stays : St s (settle s).state
     unfolding resumed_state
     settle_stays =
-        settle_ways s (λ u. St s u.state) self resumed_stays closed_stays (λ e. light m own key text s k other (record s { after = Next }) (refl, refl, refl, refl, refl))
+        settle_ways s (λ u. St s u.state) (stays_self m own key text s k) resumed_stays closed_stays (λ e. light m own key text s k other (record s { after = Next }) (refl, refl, refl, refl, refl))
         (λ id a. stays_by m own key text s (or_unsettled (leave_if false (Some id) s) s).state k other refl refl refl refl refl refl k.sound)
 
   -- ---- an arrival inside a module, also this one

@@ -1,7 +1,6 @@
 -- Settling, ticking and arriving, with one module hidden.
 use Rattle.std.proofs.Common.{◌≡◌, ℕ, zero, ◌*◌, ◌/◌, ◌%◌, List, [], ◌∷◌, refl, sym, ap, ◌∙◌, arith, Bool, true, false, ◌==◌, Option, Some, None}
-use Rattle.isolation.proofs.Tame.{ticked_active}
-use Rattle.sm_words.specs.Words.{reg}
+use Rattle.attest.specs.Done.{own_of}
 use Rattle.mod_layout.specs.Table.{Table, place_of, size_of}
 use Rattle.mod_layout.specs.declared.Module.{Module}
 use Rattle.mod_layout.specs.declared.Place.{Place}
@@ -15,16 +14,17 @@ use Rattle.reg_backup.specs.declared.backup.Phase.{Phase}
 use Rattle.reg_backup.specs.declared.backup.Phase.TheVariants.{Run}
 use Rattle.reg_backup.specs.declared.frames.Frame.{Frame}
 use Rattle.reg_backup.specs.declared.frames.Frame.TheVariants.{Module as Held}
-use Rattle.attest.specs.Done.{own_of}
+use Rattle.sm_words.specs.Status.{is_gie}
+use Rattle.sm_words.specs.Words.{reg}
 use Rattle.tracer.specs.declared.Event.{Event}
 use Rattle.written_machine.specs.Cycle.{Settled, unsettled, pc_of, ticked, resume_from, close_of, in_text, leave_if, settle_by, settle_in, settle, due, arrive_inside, enter_at, enter}
 use Rattle.written_machine.specs.State.{State}
+use Rattle.isolation.proofs.Tame.{ticked_active}
 use Rattle.isolation.proofs.Bytes.{cleared_comm}
-use Rattle.isolation.proofs.Hide.{veil_core, veil_if, veil_frames, veil, veil_step, hide_by, hide, length_veiled, vector_veiled}
+use Rattle.isolation.proofs.Hide.{veil_core, veil_if, veil_frames, veil, veil_step, hide_by, hide, length_veiled, vector_cleared}
 use Rattle.isolation.proofs.Rights.{Sound}
 use Rattle.isolation.proofs.Cases.{interrupted}
 use Rattle.isolation.proofs.Ways.{or_unsettled}
-use Rattle.sm_words.specs.Status.{is_gie}
 
 abbrev pub hide_settled : ℕ → Module → Settled → Settled
 hide_settled m own u = record u { state = hide m own u.state }
@@ -58,8 +58,8 @@ module _ (m : ℕ) (own : Module) where
   -- ---- an arrival inside a module
   pub arrive_hidden : (c : Bool) (t : Table) → Sound m own t → (v id : ℕ) (s : State) → (id == m) ≡ c → interrupted v id (hide_by c m own s) ≡ veil_step m own (interrupted v id s)
   unfolding arrive_inside
-  arrive_hidden true t sound v id s e = rw (vector_veiled m own t sound s v, e) refl
-  arrive_hidden false t sound v id s e = rw (vector_veiled m own t sound s v, e) refl
+  arrive_hidden true t sound v id s e = rw (vector_cleared m own t sound s.memory v, e) refl
+  arrive_hidden false t sound v id s e = rw (vector_cleared m own t sound s.memory v, e) refl
 
   -- ---- settling while another or none is active
   resume_by : (c : Bool) (b : Backup) (fs : List Frame) (s : State) →
@@ -78,11 +78,8 @@ module _ (m : ℕ) (own : Module) where
   resume_by false b fs s = refl
 
   module _ (s : State) (other : is_id m s.active ≡ false) where
-    pub same_hidden : hide m own s ≡ veil m own s
-    same_hidden = ap (λ b. hide_by b m own s) other
-
     unsettled_veiled : unsettled (veil m own s) ≡ hide_settled m own (unsettled s)
-    unsettled_veiled = ap unsettled (sym same_hidden)
+    unsettled_veiled = ap (λ b. unsettled (hide_by b m own s)) (sym other)
 
     resume_veiled : (fs : List Frame) → or_unsettled (resume_from (veil_frames m fs) (veil m own s)) (veil m own s) ≡ hide_settled m own (or_unsettled (resume_from fs s) s)
     resume_veiled (Held b ∷ fs) = resume_by (b.module == m) b fs s
@@ -96,13 +93,10 @@ module _ (m : ℕ) (own : Module) where
     leave_veiled false (Some id) = refl
     leave_veiled _ _ = unsettled_veiled
 
-    handler_veiled : or_unsettled (settle_by Handler (veil m own s)) (veil m own s) ≡ hide_settled m own (or_unsettled (settle_by Handler s) s)
-    handler_veiled = rw other refl
-
     settle_by_veiled : (a : After) → or_unsettled (settle_by a (veil m own s)) (veil m own s) ≡ hide_settled m own (or_unsettled (settle_by a s) s)
     settle_by_veiled Resume = resume_veiled s.frames
     settle_by_veiled Close = close_veiled s.active (own_of s.active s.table)
-    settle_by_veiled Handler = handler_veiled
+    settle_by_veiled Handler = rw other refl
     settle_by_veiled Next = leave_veiled (in_text (own_of s.active s.table) (pc_of s)) s.active
 
     settle_in_veiled : (p : Phase) → or_unsettled (settle_in p (veil m own s)) (veil m own s) ≡ hide_settled m own (or_unsettled (settle_in p s) s)

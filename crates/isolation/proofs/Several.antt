@@ -1,17 +1,17 @@
 -- Two modules that answer, in one image: the runs are alike while the answers of both agree, by an image between the two.
 use Rattle.std.proofs.Common.{◌≡◌, ◌≢◌, ⊎_elim, ℕ, zero, suc, List, sym, ap, ◌∙◌, subst, arith, true, false, ◌==◌, Option, All}
+use Rattle.image_text.specs.Image.{Image}
+use Rattle.isolation.specs.Calls.{EndsCall, AnswersAgree}
+use Rattle.pc_access.specs.Rights.{is_id}
+use Rattle.schedule_file.specs.declared.Entry.{Entry as Scheduled}
+use Rattle.sm_words.specs.Words.{reg}
 use Rattle.std.proofs.lemmas.Bool.{cases_eq}
 use Rattle.std.proofs.lemmas.Bool.Decides.{nat_tests}
-use Rattle.sm_words.specs.Words.{reg}
-use Rattle.schedule_file.specs.declared.Entry.{Entry as Scheduled}
-use Rattle.pc_access.specs.Rights.{is_id}
-use Rattle.image_text.specs.Image.{Image}
 use Rattle.written_machine.specs.Cycle.{cycle}
 use Rattle.written_machine.specs.Peers.{PeersBut}
 use Rattle.written_machine.specs.Trace.{trace}
 use Rattle.written_machine.specs.View.{at, is_hidden_by, view_of}
 use Rattle.written_machine.specs.declared.Hidden.TheVariants.{All as AllHidden, Only}
-use Rattle.isolation.specs.Calls.{EndsCall, AnswersAgree}
 use Rattle.isolation.proofs.Active.{active_some}
 use Rattle.isolation.proofs.Tame.{ends_active}
 use Rattle.isolation.proofs.Telling.{seen_active, seen_core, all_seen, traces_while}
@@ -36,23 +36,17 @@ module _ (a c b : Image) (m p : ℕ) (answers replies : List ℕ) (schedule : Li
   abbrev Second : ℕ → Type 0
   Second n = AnswersAgree c b p replies schedule n
 
-  first_views : (n : ℕ) → First n → view_of (at a schedule n) (Only m) ≡ view_of (at c schedule n) (Only m)
-  first_views n x = views_while a c m answers schedule first n x
-
-  second_views : (n : ℕ) → Second n → view_of (at c schedule n) (Only p) ≡ view_of (at b schedule n) (Only p)
-  second_views n y = views_while c b p replies schedule second n y
-
   first_more : (n : ℕ) → First n → Second n → AnswersAgree a b m answers schedule (suc n) → First (suc n)
   first_more n x y agree = one_more a c m answers schedule n x (λ e.
-      let active = ap (is_id m) (sym (seen_active m (at a schedule n) (at c schedule n) (first_views n x))) ∙ ends_active m (at a schedule n) e in
-      let core = seen_core p (at c schedule n) (at b schedule n) (second_views n y) (apart m p (at c schedule n).active ne active) in
+      let active = ap (is_id m) (sym (seen_active m (at a schedule n) (at c schedule n) (views_while a c m answers schedule first n x))) ∙ ends_active m (at a schedule n) e in
+      let core = seen_core p (at c schedule n) (at b schedule n) (views_while c b p replies schedule second n y) (apart m p (at c schedule n).active ne active) in
       subst (λ l. All (λ r. reg (at a schedule n).core r ≡ reg l r) answers) (sym core) (agree n (omega arith) e))
 
   second_more : (n : ℕ) → First (suc n) → Second n → AnswersAgree a b p replies schedule (suc n) → Second (suc n)
   second_more n x y agree = one_more c b p replies schedule n y (λ e.
       let ends = subst (EndsCall p) (sym (events_while a c m answers schedule first n x)) e in
       let active = ends_active p (at a schedule n) ends in
-      let core = seen_core m (at a schedule n) (at c schedule n) (first_views n (λ j lt. x j (omega arith))) (apart p m (at a schedule n).active (λ k. ne (sym k)) active) in
+      let core = seen_core m (at a schedule n) (at c schedule n) (views_while a c m answers schedule first n (λ j lt. x j (omega arith))) (apart p m (at a schedule n).active (λ k. ne (sym k)) active) in
       subst (λ l. All (λ r. reg l r ≡ reg (at b schedule n).core r) replies) core (agree n (omega arith) ends))
 
   both : (n : ℕ) → AnswersAgree a b m answers schedule n → AnswersAgree a b p replies schedule n → First n × Second n
@@ -65,7 +59,7 @@ module _ (a c b : Image) (m p : ℕ) (answers replies : List ℕ) (schedule : Li
   pub two_views : (n : ℕ) → AnswersAgree a b m answers schedule n → AnswersAgree a b p replies schedule n → view_of (at a schedule n) AllHidden ≡ view_of (at b schedule n) AllHidden
   two_views n u v =
       let q = both n u v in
-      all_seen m (at a schedule n) (at c schedule n) (first_views n q.0) ∙ all_seen p (at c schedule n) (at b schedule n) (second_views n q.1)
+      all_seen m (at a schedule n) (at c schedule n) (views_while a c m answers schedule first n q.0) ∙ all_seen p (at c schedule n) (at b schedule n) (views_while c b p replies schedule second n q.1)
 
   pub two_traces : (n : ℕ) → AnswersAgree a b m answers schedule n → AnswersAgree a b p replies schedule n → trace a schedule n ≡ trace b schedule n
   two_traces n u v = let q = both n u v in traces_while a c m answers schedule first n q.0 ∙ traces_while c b p replies schedule second n q.1

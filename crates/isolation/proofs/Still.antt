@@ -1,12 +1,12 @@
 -- Where a module is held, others' turns tell nothing of its hides and resumes.
 use Rattle.std.proofs.Common.{◌≡◌, ℕ, List, [], ◌∷◌, ◌++◌, refl, sym, ap, ◌∙◌, subst, arith, Bool, true, false, ◌==◌, Some}
-use Rattle.std.proofs.lemmas.Bool.Decides.{nat_tests}
+use Rattle.isolation.specs.Calls.{Away, away_if, back_from, note, notes}
 use Rattle.pc_access.specs.Rights.{is_id}
 use Rattle.reg_backup.specs.declared.backup.Backup.{Backup}
+use Rattle.std.proofs.lemmas.Bool.Decides.{nat_tests}
 use Rattle.tracer.specs.declared.Event.{Event}
 use Rattle.written_machine.specs.Cycle.{Step, pc_of, settle, arrive_inside, turn}
 use Rattle.written_machine.specs.State.{State}
-use Rattle.isolation.specs.Calls.{Away, away_if, back_from, note, notes}
 use Rattle.isolation.proofs.Ways.{perform_tells, EachAct, EachTurn, each_turn, settle_ways}
 
 module _ (m : ℕ) where

@@ -1,20 +1,20 @@
 -- What the table says of a module stays as others come and go.
 use Rattle.std.proofs.Common.{◌≡◌, ◌≢◌, ◌⊎◌, inl, inr, ⊎_elim, ℕ, ◌+◌, ◌%◌, ◌≤◌, List, [], ◌∷◌, ◌++◌, Bool, true, false, cond, ◌||◌, ◌==◌, Some, refl, sym, ap, ◌∙◌, subst, arith}
-use Rattle.std.proofs.lemmas.Bool.Decides.{nat_tests}
-use Rattle.sm_words.specs.Words.{reg}
+use Rattle.attest.specs.Units.{UnitName, Protect, new_text, new_ram, table_by}
+use Rattle.cpu_step.specs.Asked.{table_after}
 use Rattle.insn_decode.specs.declared.insn.Insn.{Insn}
 use Rattle.insn_decode.specs.declared.insn.Insn.TheVariants.{Unit as UnitOp}
+use Rattle.mod_layout.proofs.Found.{separate_found, module_found, outside, elsewhere, share_sym, no_entry, ends_of, SeparateFrom, place_by, find_module}
+use Rattle.mod_layout.proofs.TableLemmas.{apart_of, table_dropped, table_more}
 use Rattle.mod_layout.specs.Table.{Table, place_in, place_of, module_of, holds, share_byte, without, drop_module, takes, with_module}
 use Rattle.mod_layout.specs.Tables.{IsSection, IsModule, Separate, AreModules, IsTable}
 use Rattle.mod_layout.specs.declared.Module.{Module}
 use Rattle.mod_layout.specs.declared.Place.{Place}
 use Rattle.mod_layout.specs.declared.Place.TheVariants.{Entry, Text, Data}
 use Rattle.mod_layout.specs.declared.Section.{Section}
-use Rattle.attest.specs.Units.{UnitName, Protect, new_text, new_ram, table_by}
-use Rattle.cpu_step.specs.Asked.{table_after}
+use Rattle.sm_words.specs.Words.{reg}
+use Rattle.std.proofs.lemmas.Bool.Decides.{nat_tests}
 use Rattle.isolation.proofs.Rights.{Sound}
-use Rattle.mod_layout.proofs.TableLemmas.{apart_of, table_dropped, table_more}
-use Rattle.mod_layout.proofs.Found.{separate_found, module_found, outside, elsewhere, share_sym, no_entry, ends_of, SeparateFrom, place_by, find_module}
 
 apart_out : (s r : Section) (a : ℕ) → share_byte s r ≡ false → holds s a ≡ true → holds r a ≡ false
 apart_out s r a h e = let p = ends_of s a e in outside r a (elsewhere r s a p.0 p.1 (share_sym s r h))
@@ -41,47 +41,36 @@ module _ (given : ℕ) (x : Module) (ok : IsModule given x) (rest : Place) (a : 
       by true e = inr (rw e refl)
       by false e = inl (rw (e, t) refl)
 
--- what an entry says of the module m
-abbrev Says : ℕ → Module → Place → ℕ → Type 0
-Says m own (Entry id) a = id ≡ m → is_entry own.text a ≡ true
-Says m own _ a = Unit {0}
+-- what an entry of the module m says
+abbrev Says : ℕ → Type 0 → Place → Type 0
+Says m Q (Entry id) = id ≡ m → Q
+Says m Q _ = Unit {0}
 
 -- a place that is not the module's entry
 abbrev IsNot : ℕ → Place → Type 0
-IsNot m (Entry id) = id ≢ m
-IsNot m _ = Unit {0}
+IsNot m p = Says m ⊥ p
 
-says_not : (m : ℕ) (own : Module) (p : Place) (a : ℕ) → IsNot m p → Says m own p a
-says_not m own (Entry id) a h = λ e. absurd (h e)
-says_not m own _ a h = tt
+says_not : (m : ℕ) (Q : Type 0) (p : Place) → IsNot m p → Says m Q p
+says_not m Q (Entry id) h = λ e. absurd (h e)
+says_not m Q _ h = tt
 
-not_by : (m id : ℕ) (e t r : Bool) (rest : Place) → id ≢ m → IsNot m rest → IsNot m (place_by e t r id rest)
-not_by m id true t r rest ne h = ne
-not_by m id false false false rest ne h = h
-not_by m id false _ _ rest ne h = tt
-
-says_by : (m : ℕ) (own : Module) (a id : ℕ) (e t r : Bool) (rest : Place) → is_entry own.text a ≡ e → IsNot m rest → Says m own (place_by e t r id rest) a
-says_by m own a id true t r rest he h = λ q. he
-says_by m own a id false false false rest he h = says_not m own rest a h
-says_by m own a id false _ _ rest he h = tt
-
-says_skip : (m : ℕ) (own : Module) (a id : ℕ) (e t r : Bool) (rest : Place) → id ≢ m → Says m own rest a → Says m own (place_by e t r id rest) a
-says_skip m own a id true t r rest ne h = λ q. absurd (ne q)
-says_skip m own a id false false false rest ne h = h
-says_skip m own a id false _ _ rest ne h = tt
+says_by : (m id : ℕ) (Q : Type 0) (e t r : Bool) (rest : Place) → (e ≡ true → id ≡ m → Q) → Says m Q rest → Says m Q (place_by e t r id rest)
+says_by m id Q true t r rest q h = q refl
+says_by m id Q false false false rest q h = h
+says_by m id Q false _ _ rest q h = tt
 
 module _ (given : ℕ) (m : ℕ) where
   others_not : (x : Module) (ms : List Module) (a : ℕ) → x.id ≡ m → SeparateFrom x ms → IsNot m (place_in ms a)
   others_not x [] a e s = tt
   others_not x (y ∷ ms) a e s =
-      not_by m y.id (is_entry y.text a) (holds y.text a) (holds y.ram a) (place_in ms a) (λ f. s.0.ids (e ∙ sym f)) (others_not x ms a e s.1)
+      says_by m y.id ⊥ (is_entry y.text a) (holds y.text a) (holds y.ram a) (place_in ms a) (λ g f. s.0.ids (e ∙ sym f)) (others_not x ms a e s.1)
 
   -- where the module is found in a list
   pub record Found (ms : List Module) (own : Module) : Type 0 where
     pub is_module : IsModule given own
     pub in_data : (a : ℕ) → holds own.ram a ≡ true → place_in ms a ≡ Data m
     pub in_text : (a : ℕ) → holds own.text a ≡ true → (place_in ms a ≡ Text m) ⊎ (place_in ms a ≡ Entry m)
-    pub says : (a : ℕ) → Says m own (place_in ms a) a
+    pub says : (a : ℕ) → Says m (is_entry own.text a ≡ true) (place_in ms a)
 
   found_here : (x : Module) (ms : List Module) → IsModule given x → SeparateFrom x ms → x.id ≡ m → Found (x ∷ ms) x
   found_here x ms ok s e =
@@ -89,7 +78,7 @@ module _ (given : ℕ) (m : ℕ) where
         is_module = ok;
         in_data = λ a h. place_data given x ok (place_in ms a) a h ∙ ap Data e;
         in_text = λ a h. ⊎_elim (λ p. inl (p ∙ ap Text e)) (λ p. inr (p ∙ ap Entry e)) (place_text given x ok (place_in ms a) a h);
-        says = λ a. says_by m x a x.id (is_entry x.text a) (holds x.text a) (holds x.ram a) (place_in ms a) refl (others_not x ms a e s);
+        says = λ a. says_by m x.id (is_entry x.text a ≡ true) (is_entry x.text a) (holds x.text a) (holds x.ram a) (place_in ms a) (λ g q. g) (says_not m _ (place_in ms a) (others_not x ms a e s));
       }
 
   found_later : (x : Module) (ms : List Module) (own : Module) → IsModule given x → Separate x own → x.id ≢ m → Found ms own → Found (x ∷ ms) own
@@ -101,7 +90,7 @@ module _ (given : ℕ) (m : ℕ) where
         in_text = λ a h.
             let e = place_skip given x ok (place_in ms a) a (apart_out own.text x.text a (share_sym x.text own.text s.texts) h) (apart_out own.text x.ram a (share_sym x.ram own.text s.ram_text) h) in
             ⊎_elim (λ p. inl (e ∙ p)) (λ p. inr (e ∙ p)) (f.in_text a h);
-        says = λ a. says_skip m own a x.id (is_entry x.text a) (holds x.text a) (holds x.ram a) (place_in ms a) ne (f.says a);
+        says = λ a. says_by m x.id _ (is_entry x.text a) (holds x.text a) (holds x.ram a) (place_in ms a) (λ g q. absurd (ne q)) (f.says a);
       }
 
   found : (ms : List Module) (own : Module) → AreModules given ms → find_module m ms ≡ Some own → Found ms own
@@ -139,7 +128,7 @@ sound_from m own t ok e =
       own_ok = o;
       in_data = f.in_data;
       in_text = f.in_text;
-      entry_only = λ a h even. at_start own.text a o.text_ok (subst (λ p. Says m own p a) h (f.says a) refl) even;
+      entry_only = λ a h even. at_start own.text a o.text_ok (subst (Says m (is_entry own.text a ≡ true)) h (f.says a) refl) even;
       apart = λ a h. apart_out own.text own.ram a o.apart h;
       others = λ id x g ne.
           let s = two_found t.given id m t.modules x own ok.modules ne g e in

@@ -1,21 +1,22 @@
 -- What a cycle does to its number, its phase and what is settled next, and which events tell of it.
 use Rattle.std.proofs.Common.{◌≡◌, ◌≢◌, ◌⊎◌, inl, inr, ⊎_elim, ℕ, zero, suc, ◌+◌, ◌-◌, ◌<◌, List, [], ◌∷◌, ◌++◌, refl, sym, ap, ◌∙◌, subst, arith, Bool, true, false, ◌==◌, Option, Some, None, zero-add, cond, filter}
-use Rattle.std.proofs.lemmas.Bool.Decides.{nat_tests}
-use Rattle.schedule_file.specs.declared.Entry.{Entry as Scheduled}
+use Rattle.image_text.specs.Image.{Image}
+use Rattle.isolation.specs.Calls.{EndsCall, ends_call, Hides, Handles, rest_of}
 use Rattle.pc_access.specs.Rights.{is_id}
 use Rattle.pc_access.specs.declared.Stop.{Stop}
-use Rattle.image_text.specs.Image.{Image}
 use Rattle.reg_backup.specs.Saved.{closing_after}
 use Rattle.reg_backup.specs.declared.backup.After.{After}
 use Rattle.reg_backup.specs.declared.backup.After.TheVariants.{Next, Handler}
 use Rattle.reg_backup.specs.declared.backup.Phase.TheVariants.{Run, Pad}
+use Rattle.schedule_file.specs.declared.Entry.{Entry as Scheduled}
+use Rattle.std.proofs.lemmas.Bool.Decides.{nat_tests}
+use Rattle.std.proofs.lemmas.List.{append_assoc}
 use Rattle.tracer.specs.declared.Event.{Event}
+use Rattle.written_machine.proofs.Stops.{cycle_by}
 use Rattle.written_machine.specs.Cycle.{Step, quiet, told, settle, ticked, arrive_inside, perform, padded, turn, sent_event, counted_by, move, cycle, after_cycles}
 use Rattle.written_machine.specs.State.{State}
 use Rattle.written_machine.specs.View.{at, boot}
-use Rattle.written_machine.proofs.Stops.{cycle_by}
-use Rattle.isolation.specs.Calls.{EndsCall, ends_call, Hides, Handles, rest_of}
-use Rattle.isolation.proofs.Each.{Each, each_map}
+use Rattle.isolation.proofs.Each.{Each, each_map, each_append}
 use Rattle.isolation.proofs.Ways.{perform_tells, sent_tells, EachAct, EachTurn, each_turn, Lasting, always, settle_ways}
 
 abbrev pub is_handler : After → Bool
@@ -156,10 +157,11 @@ turn_late left s = ⊎_elim (λ t. each_map bare_late (turn left s).events t.bar
 
 -- ---- settling
 abbrev Keeping : State → State → Type 0
-Keeping s t = (t.cycle ≡ s.cycle) × (t.key ≡ s.key)
+Keeping s t = (t.cycle ≡ s.cycle) × (t.key ≡ s.key) × (t.stop ≡ s.stop)
 
 pub settle_same : (s : State) → Keeping s (settle s).state
-settle_same s = settle_ways s (λ u. Keeping s u.state) (refl, refl) (λ b fs e. (refl, refl)) (λ id x a o. (refl, refl)) (λ e. (refl, refl)) (λ id a. (refl, refl))
+settle_same s =
+    settle_ways s (λ u. Keeping s u.state) (refl, refl, refl) (λ b fs e. (refl, refl, refl)) (λ id x a o. (refl, refl, refl)) (λ e. (refl, refl, refl)) (λ id a. (refl, refl, refl))
 
 pub ticked_stop : (s : State) → (ticked s).stop ≡ s.stop
 unfolding ticked
@@ -224,41 +226,32 @@ runs_so_far s (suc n) h =
     last i true e lt r = let k : i ≡ suc n = grind (arith, nat_tests) in subst (λ k. (after_cycles s k).stop ≡ None) (sym k) h
     last i false e lt r = let k : i ≢ suc n = grind (arith, nat_tests) in r i (omega arith)
 
--- ---- ends are told by settling alone
-ends_counted : (m : ℕ) (o : Option Stop) (es : List Event) (t : Step) → Late t.events → EndsCall m (counted_by o (told es t)).events → EndsCall m es
-ends_counted m (Some stop) es t l h = late_ends m es t.events l h
-ends_counted m None es t l h = late_ends m es t.events l
-    (late_ends m (es ++ t.events) (sent_event t.state.devices.sent) (sent_tells Late tt (λ b. (tt, tt)) t.state.devices.sent) h)
+-- ---- a cycle tells what settling tells, and then what is not of settling
+pub record Later (es all : List Event) : Type 0 where
+  pub rest : List Event
+  pub is : all ≡ es ++ rest
+  pub late : Late rest
 
-move_ends : (m : ℕ) (s : State) → EndsCall m (move s).events → EndsCall m (settle (ticked s)).events
+counted_later : (o : Option Stop) (es : List Event) (t : Step) → Late t.events → Later es (counted_by o (told es t)).events
+counted_later (Some stop) es t l = record { rest = t.events; is = refl; late = l }
+counted_later None es t l =
+    let sent = sent_event t.state.devices.sent in
+    record { rest = t.events ++ sent; is = append_assoc es t.events sent; late = each_append IsLate t.events sent l (sent_tells Late tt (λ b. (tt, tt)) t.state.devices.sent) }
+
+pub move_later : (s : State) → Later (settle (ticked s)).events (move s).events
 unfolding move
-move_ends m s h =
-    let u = settle (ticked s) in
-    let t = turn u.left u.state in
-    ends_counted m t.state.stop u.events t (turn_late u.left u.state) h
+move_later s = let u = settle (ticked s) in let t = turn u.left u.state in counted_later t.state.stop u.events t (turn_late u.left u.state)
 
--- and each end that settling tells
-counted_ends : (m : ℕ) (o : Option Stop) (es : List Event) (t : Step) → EndsCall m es → EndsCall m (counted_by o (told es t)).events
-counted_ends m (Some stop) es t h = ends_front m es t.events h
-counted_ends m None es t h = ends_front m (es ++ t.events) (sent_event t.state.devices.sent) (ends_front m es t.events h)
-
+-- so ends are told by settling alone, and each of them
 pub settled_ends : (m : ℕ) (s : State) → EndsCall m (settle (ticked s)).events → EndsCall m (move s).events
-unfolding move
-settled_ends m s h = let u = settle (ticked s) in let t = turn u.left u.state in counted_ends m t.state.stop u.events t h
-
-counted_filter : (m : ℕ) (o : Option Stop) (es : List Event) (t : Step) → Late t.events → filter (ends_call m) (counted_by o (told es t)).events ≡ filter (ends_call m) es
-counted_filter m (Some stop) es t l = late_filter m es t.events l
-counted_filter m None es t l =
-    late_filter m (es ++ t.events) (sent_event t.state.devices.sent) (sent_tells Late tt (λ b. (tt, tt)) t.state.devices.sent)
-    ∙ late_filter m es t.events l
+settled_ends m s h = let l = move_later s in subst (EndsCall m) (sym l.is) (ends_front m (settle (ticked s)).events l.rest h)
 
 pub move_filter : (m : ℕ) (s : State) → filter (ends_call m) (move s).events ≡ filter (ends_call m) (settle (ticked s)).events
-unfolding move
-move_filter m s = let u = settle (ticked s) in let t = turn u.left u.state in counted_filter m t.state.stop u.events t (turn_late u.left u.state)
+move_filter m s = let l = move_later s in ap (filter (ends_call m)) l.is ∙ late_filter m (settle (ticked s)).events l.rest l.late
 
 pub cycle_ends : (m : ℕ) (o : Option Stop) (s : State) → s.stop ≡ o → EndsCall m (cycle_by o s).events → (s.stop ≡ None) × EndsCall m (settle (ticked s)).events
 cycle_ends m (Some stop) s e h = absurd h
-cycle_ends m None s e h = (e, move_ends m s h)
+cycle_ends m None s e h = let l = move_later s in (e, late_ends m (settle (ticked s)).events l.rest l.late (subst (EndsCall m) l.is h))
 
 -- the module is active that they end
 module _ (m : ℕ) where

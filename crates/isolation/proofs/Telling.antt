@@ -1,15 +1,15 @@
 -- What peers write is the same: their traces, their end lines, what is seen of them, and where they stand.
-use Rattle.schedule_file.specs.declared.Entry.{Entry as Scheduled}
+use Rattle.image_text.specs.Image.{Image}
+use Rattle.isolation.specs.Calls.{AnswersAgree}
 use Rattle.mod_layout.specs.Table.{place_of}
 use Rattle.mod_layout.specs.declared.Place.{Place}
 use Rattle.mod_layout.specs.declared.Place.TheVariants.{Open, Data}
 use Rattle.pc_access.specs.Rights.{is_id}
 use Rattle.pc_access.specs.declared.Stop.{Stop}
-use Rattle.image_text.specs.Image.{Image}
 use Rattle.reg_backup.specs.declared.backup.Backup.{Backup}
 use Rattle.reg_backup.specs.declared.frames.Frame.{Frame}
 use Rattle.reg_backup.specs.declared.frames.Frame.TheVariants.{Plain, Module as Held}
-use Rattle.tracer.specs.Lines.{end_line_at}
+use Rattle.schedule_file.specs.declared.Entry.{Entry as Scheduled}
 use Rattle.written_machine.specs.Cycle.{cycle}
 use Rattle.written_machine.specs.Peers.{PeersBut, Peers}
 use Rattle.written_machine.specs.Standing.{stands_at}
@@ -17,11 +17,11 @@ use Rattle.written_machine.specs.State.{State}
 use Rattle.written_machine.specs.Trace.{event_lines, end_by, end_line_of, lines_after, trace}
 use Rattle.written_machine.specs.View.{boot, at, is_hidden_by, Seen, SeenPlain, SeenHidden, SeenWhole, seen_frame, seen_byte, View, view_of}
 use Rattle.written_machine.specs.declared.Hidden.TheVariants.{All as AllHidden, Only}
+use Rattle.tracer.specs.Lines.{end_line_at}
 use Rattle.std.proofs.Common.{◌≡◌, ℕ, zero, suc, ◌+◌, List, [], ◌∷◌, ◌++◌, map, refl, sym, ap, ◌∙◌, arith, Bool, true, false, nat_lt, cond, ◌==◌, Option, Some, None, is_some}
 use mathlib.Core.Path.{fun_ext}
-use Rattle.isolation.specs.Calls.{AnswersAgree}
 use Rattle.isolation.proofs.Follow.{after_more}
-use Rattle.isolation.proofs.Whole.{views_while, events_while, none_differs, views_equal, phases_equal}
+use Rattle.isolation.proofs.Whole.{views_while, events_while, phases_while, none_differs}
 
 -- ---- a view that hides all modules, from one that hides one
 coarse_frame : Seen → Seen
@@ -118,7 +118,7 @@ module _ (m : ℕ) (s t : State) (v : view_of s (Only m) ≡ view_of t (Only m))
 
 -- while the answers agree
 module _ (a b : Image) (m : ℕ) (answers : List ℕ) (schedule : List Scheduled) (peers : PeersBut a b m answers) where
-  cycles_while : (k : ℕ) → AnswersAgree a b m answers schedule k → (at a schedule k).cycle ≡ (at b schedule k).cycle
+  pub cycles_while : (k : ℕ) → AnswersAgree a b m answers schedule k → (at a schedule k).cycle ≡ (at b schedule k).cycle
   cycles_while k agree = seen_cycle m (at a schedule k) (at b schedule k) (views_while a b m answers schedule peers k agree)
 
   lines_same : (k : ℕ) → AnswersAgree a b m answers schedule (suc k) → event_lines (at a schedule k).cycle (cycle (at a schedule k)).events ≡ event_lines (at b schedule k).cycle (cycle (at b schedule k)).events
@@ -126,12 +126,12 @@ module _ (a b : Image) (m : ℕ) (answers : List ℕ) (schedule : List Scheduled
       ap (λ c. event_lines c (cycle (at a schedule k)).events) (cycles_while k (λ j lt. agree j (omega arith)))
       ∙ ap (event_lines (at b schedule k).cycle) (events_while a b m answers schedule peers k agree)
 
-  lines_while : (k n : ℕ) → AnswersAgree a b m answers schedule (n + k) → lines_after (at a schedule k) n ≡ lines_after (at b schedule k) n
+  pub lines_while : (k n : ℕ) → AnswersAgree a b m answers schedule (n + k) → lines_after (at a schedule k) n ≡ lines_after (at b schedule k) n
   lines_while k zero agree = refl
   lines_while k (suc n) agree =
       rw (lines_while k n (λ j lt. agree j (omega arith)), after_more a schedule k n, after_more b schedule k n, lines_same (n + k) (λ j lt. agree j (omega arith))) refl
 
-  ends_while : (k : ℕ) → AnswersAgree a b m answers schedule k → end_line_of (at a schedule k) ≡ end_line_of (at b schedule k)
+  pub ends_while : (k : ℕ) → AnswersAgree a b m answers schedule k → end_line_of (at a schedule k) ≡ end_line_of (at b schedule k)
   ends_while k agree = end_lines m (at a schedule k) (at b schedule k) (views_while a b m answers schedule peers k agree)
 
   -- both have one trace
@@ -140,17 +140,11 @@ module _ (a b : Image) (m : ℕ) (answers : List ℕ) (schedule : List Scheduled
       ap (λ l. l ++ end_line_of (at a schedule n)) (lines_while 0 n (λ j lt. agree j (omega arith))) ∙ ap (λ l. lines_after (boot b schedule) n ++ l) (ends_while n agree)
 
 module _ (a b : Image) (m : ℕ) (schedule : List Scheduled) (peers : Peers a b m) where
-  pub cycles_same : (k : ℕ) → (at a schedule k).cycle ≡ (at b schedule k).cycle
-  cycles_same k = cycles_while a b m [] schedule peers k (none_differs a b m schedule k)
+  agree : (k : ℕ) → AnswersAgree a b m [] schedule k
+  agree = none_differs a b m schedule
 
-  pub lines_from : (k n : ℕ) → lines_after (at a schedule k) n ≡ lines_after (at b schedule k) n
-  lines_from k n = lines_while a b m [] schedule peers k n (none_differs a b m schedule (n + k))
-
-  pub ends_same : (k : ℕ) → end_line_of (at a schedule k) ≡ end_line_of (at b schedule k)
-  ends_same k = ends_while a b m [] schedule peers k (none_differs a b m schedule k)
-
-  pub traces_equal : (n : ℕ) → trace a schedule n ≡ trace b schedule n
-  traces_equal n = traces_while a b m [] schedule peers n (none_differs a b m schedule n)
+  views : (k : ℕ) → view_of (at a schedule k) (Only m) ≡ view_of (at b schedule k) (Only m)
+  views k = views_while a b m [] schedule peers k (agree k)
 
   -- ---- where the outside stands
   stands_by : (s t : State) (addr : ℕ) (o : Option ℕ) → s.active ≡ o → t.active ≡ o → (s.active ≡ None → (s.phase ≡ t.phase) × (s.after ≡ t.after)) → (s.active ≡ None → s.core ≡ t.core) → stands_at addr s ≡ stands_at addr t
@@ -162,8 +156,8 @@ module _ (a b : Image) (m : ℕ) (schedule : List Scheduled) (peers : Peers a b 
   stands_same addr k =
       let s = at a schedule k in
       let t = at b schedule k in
-      stands_by s t addr s.active refl (sym (seen_active m s t (views_equal a b m schedule peers k))) (λ e. phases_equal a b m schedule peers k (ap (is_id m) e)) (outside_core m s t (views_equal a b m schedule peers k))
+      stands_by s t addr s.active refl (sym (seen_active m s t (views k))) (λ e. phases_while a b m [] schedule peers k (agree k) (ap (is_id m) e)) (outside_core m s t (views k))
 
   -- what is seen where every module is hidden
   pub outside_equal : (k : ℕ) → view_of (at a schedule k) AllHidden ≡ view_of (at b schedule k) AllHidden
-  outside_equal k = all_seen m (at a schedule k) (at b schedule k) (views_equal a b m schedule peers k)
+  outside_equal k = all_seen m (at a schedule k) (at b schedule k) (views k)

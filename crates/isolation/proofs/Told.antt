@@ -1,16 +1,16 @@
 -- What a cycle tells: of a stop where it stops, and four events at most.
 use Rattle.std.proofs.Common.{◌≡◌, ℕ, List, [], ◌∷◌, ◌++◌, refl, sym, ◌∙◌, subst, true, cond, Option, Some, None, ◌≤◌, length, length-append, ap, arith, ◌==◌}
-use Rattle.isolation.proofs.Tame.{ticked_stop}
-use Rattle.pc_access.specs.declared.Stop.{Stop}
 use Rattle.cpu_step.specs.Asked.{table_after}
-use Rattle.tracer.specs.declared.Event.{Event}
-use Rattle.written_machine.specs.Cycle.{Step, Settled, cycle, told, settle, ticked, arrive_inside, perform, turn, sent_event, counted_by, move}
-use Rattle.written_machine.specs.State.{State}
-use Rattle.written_machine.proofs.Stops.{cycle_by}
-use Rattle.isolation.specs.Calls.{stop_in}
-use Rattle.isolation.proofs.Ways.{perform_tells, sent_tells, EachAct, EachTurn, each_turn, settle_ways}
-use Rattle.std.proofs.lemmas.Bool.Decides.{nat_tests}
 use Rattle.insn_decode.specs.declared.insn.Insn.TheVariants.{Reti}
+use Rattle.isolation.specs.Calls.{stop_in}
+use Rattle.pc_access.specs.declared.Stop.{Stop}
+use Rattle.std.proofs.lemmas.Bool.Decides.{nat_tests}
+use Rattle.tracer.specs.declared.Event.{Event}
+use Rattle.written_machine.proofs.Stops.{cycle_by}
+use Rattle.written_machine.specs.Cycle.{Step, cycle, told, settle, ticked, arrive_inside, perform, turn, sent_event, counted_by, move}
+use Rattle.written_machine.specs.State.{State}
+use Rattle.isolation.proofs.Tame.{settle_same, ticked_stop}
+use Rattle.isolation.proofs.Ways.{perform_tells, sent_tells, EachAct, EachTurn, each_turn, settle_ways}
 
 -- what is told of a stop is where the machine stands
 abbrev Tells : Step → Type 0
@@ -54,11 +54,8 @@ turns_tell = record {
 }
 
 -- ---- settling
-abbrev Settles : State → Settled → Type 0
-Settles s u = Silent u.events × (u.state.stop ≡ s.stop)
-
-pub settle_settles : (s : State) → Settles s (settle s)
-settle_settles s = settle_ways s (Settles s) (refl, refl) (λ b fs e. (refl, refl)) (λ id x a o. (refl, refl)) (λ e. (refl, refl)) (λ id a. (refl, refl))
+settle_silent : (s : State) → Silent (settle s).events
+settle_silent s = settle_ways s (λ u. Silent u.events) refl (λ b fs e. refl) (λ id x a o. refl) (λ e. refl) (λ id a. refl)
 
 -- ---- a cycle
 counted_tells : (o : Option Stop) (t : Step) → t.state.stop ≡ o → Tells t → Tells (counted_by o t)
@@ -71,10 +68,9 @@ unfolding move
 move_tells s h =
     let u = settle (ticked s) in
     let t = turn u.left u.state in
-    let x = settle_settles (ticked s) in
-    let g : u.state.stop ≡ None = x.1 ∙ ticked_stop s ∙ h in
+    let g : u.state.stop ≡ None = (settle_same (ticked s)).2 ∙ ticked_stop s ∙ h in
     counted_tells t.state.stop (told u.events t) refl
-    (silent_first u.events t.events x.0 ∙ each_turn Running acts_tell Running turns_tell u.left u.state g)
+    (silent_first u.events t.events (settle_silent (ticked s)) ∙ each_turn Running acts_tell Running turns_tell u.left u.state g)
 
 -- a cycle of a machine that runs tells of a stop exactly where it stops, and of which
 pub stop_told : (s : State) → s.stop ≡ None → stop_in (cycle s).events ≡ (cycle s).state.stop
@@ -130,9 +126,7 @@ move_few s =
     counted_few t.state.stop u.events t (settle_few (ticked s))
     (each_turn (λ s t. AtMost 1 t.events) acts_few (λ s t. AtMost 2 t.events) turns_few u.left u.state)
 
-cycle_few : (o : Option Stop) (s : State) → AtMost 4 (cycle_by o s).events
+-- four at most
+pub cycle_few : (o : Option Stop) (s : State) → AtMost 4 (cycle_by o s).events
 cycle_few (Some stop) s = omega arith
 cycle_few None s = move_few s
-
-pub four_events : (s : State) → length (cycle s).events ≤ 4
-four_events s = cycle_few s.stop s

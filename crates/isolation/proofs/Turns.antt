@@ -1,10 +1,8 @@
 -- A turn in which the module is not active, also one that enters it.
 use Rattle.std.proofs.Common.{◌≡◌, ◌≢◌, ℕ, zero, suc, ◌+◌, ◌-◌, ◌<◌, List, [], ◌∷◌, refl, sym, ap, ◌∙◌, subst, arith, Bool, true, false, ◌||◌, ◌==◌, Option, Some, None}
-use Rattle.std.proofs.lemmas.Bool.Decides.{nat_tests}
-use Rattle.pc_access.proofs.RightLemmas.{refused_not}
-use Rattle.sm_words.specs.Sums.{one_if}
-use Rattle.sm_words.specs.Words.{reg, IsCore}
+use Rattle.cpu_step.specs.Lone.{Lone, doing, doing_by, next_insn, lone_does, job_of}
 use Rattle.insn_decode.specs.declared.insn.Insn.{Insn}
+use Rattle.isolation.specs.Calls.{rest_of}
 use Rattle.mod_layout.specs.Table.{place_of, holds}
 use Rattle.mod_layout.specs.declared.Module.{Module}
 use Rattle.mod_layout.specs.declared.Place.{Place}
@@ -20,12 +18,15 @@ use Rattle.reg_backup.specs.declared.backup.Phase.{Phase}
 use Rattle.reg_backup.specs.declared.backup.Phase.TheVariants.{Run, Pad}
 use Rattle.reg_backup.specs.declared.frames.Frame.{Frame}
 use Rattle.reg_backup.specs.declared.frames.Frame.TheVariants.{Plain, Module as Held}
-use Rattle.cpu_step.specs.Lone.{Lone, doing, doing_by, next_insn, lone_does, job_of}
+use Rattle.sm_words.specs.Sums.{one_if}
+use Rattle.sm_words.specs.Words.{reg, IsCore}
+use Rattle.std.proofs.lemmas.Bool.Decides.{nat_tests}
 use Rattle.tracer.specs.declared.Event.{Event}
 use Rattle.written_machine.specs.Cycle.{Step, quiet, told, denied, pc_of, due, arrive_outside, padded, turn, begin, enter_at, enter, fetch, act, unless, arrive_inside}
+use Rattle.written_machine.specs.Passing.{asleep}
 use Rattle.written_machine.specs.Peers.{section}
 use Rattle.written_machine.specs.State.{State}
-use Rattle.written_machine.specs.Passing.{asleep}
+use Rattle.pc_access.proofs.RightLemmas.{refused_not}
 use Rattle.isolation.proofs.Active.{arrived_none, does_gie, moves_alike}
 use Rattle.isolation.proofs.EvenBy.{begins, AlwaysEvenBy}
 use Rattle.isolation.proofs.Evenly.{Evenly, Together, next_together}
@@ -36,9 +37,8 @@ use Rattle.isolation.proofs.Relation.{find_held, times, none_found, run_by, run_
 use Rattle.isolation.proofs.Rights.{own_id, holds_in}
 use Rattle.isolation.proofs.Settled.{arrive_inside_stays}
 use Rattle.isolation.proofs.Settling.{arrive_hidden, due_hidden, enter_veiled}
-use Rattle.isolation.proofs.Cases.{turn_at, turn_unless, turn_is, interrupted}
+use Rattle.isolation.proofs.Cases.{turn_at, turn_unless, turn_is, turn_as, interrupted}
 use Rattle.isolation.proofs.Ways.{begin_ways, enter_ways, turn_ways}
-use Rattle.isolation.specs.Calls.{rest_of}
 
 -- ---- a fetch that is allowed
 fetch_data : (m : ℕ) (p : Place) (active : Option ℕ) (held : List ℕ) (a : ℕ) → right_at p active held Fetch a ≡ None → p ≢ Data m
@@ -108,12 +108,8 @@ module _ (m : ℕ) (own : Module) (key text : List ℕ) where
   begin_outer left s k n o ok e =
       let t = enter left s in
       let x = act_entered left s k n o ok e in
-      let b : begin left s ≡ told t.events (act t.state) = begin_by left s None e in
-      let b' : begin left (veil m own s) ≡ told t.events (act (veil m own t.state)) =
-      begin_by left (veil m own s) None (check_veiled s ∙ e) ∙ ap (λ u. told u.events (act u.state)) (enter_veiled m own left s) in
-      subst (λ u. Outer m own key text s u (begin left (veil m own s))) (sym b)
-      (subst (λ u. Outer m own key text s (told t.events (act t.state)) u) (sym b')
-      (record { same = ap (λ u. told t.events u) x.same; stays = stays_then s t.state (act t.state).state (enter_stays left s k n o) x.stays }))
+      rw (begin_by left s None e, begin_by left (veil m own s) None (check_veiled s ∙ e), enter_veiled m own left s)
+      (record { same = ap (λ u. told t.events u) x.same; stays = stays_then s t.state (act t.state).state (enter_stays left s k n o) x.stays })
 
   -- what changes none of memory, table, key, frames and active module
   light_outer : (f : State → Step) (s : State) (k : Keeps m own key text s) (n : is_id m s.active ≡ false) →
@@ -226,10 +222,8 @@ module _ (m : ℕ) (own : Module) (key text : List ℕ) where
         let t1 = subst (λ d. Together answers key own text j d (doing j (start left b)) (start left a) (start left b)) (start_doing left a ka ok_a p) t0 in
         let t2 = subst (λ d. Together answers key own text j (doing_by 0 false true (next_insn j (start left a))) d (start left a) (start left b)) (start_doing left b kb ok_b pb) t1 in
         let r = first_together left (next_insn j (start left a)) (next_insn j (start left b)) refl refl p pb fa fb t2 in
-        let ba : begin left a ≡ told (Event.Enter m left ∷ []) (act (at_entry left a)) = begin_by left a None e ∙ ap (λ u. told u.events (act u.state)) (entered_is m left a p o) in
-        let bb : begin left b ≡ told (Event.Enter m left ∷ []) (act (at_entry left b)) = begin_by left b None eb ∙ ap (λ u. told u.events (act u.state)) (entered_is m left b pb ob) in
-        let x : Alike m own key text answers (told (Event.Enter m left ∷ []) (act (at_entry left a))) (told (Event.Enter m left ∷ []) (act (at_entry left b))) = record { events = ap (λ es. Event.Enter m left ∷ es) r.events; related = r.related } in
-        subst (λ u. Alike m own key text answers u (begin left b)) (sym ba) (subst (λ u. Alike m own key text answers (told (Event.Enter m left ∷ []) (act (at_entry left a))) u) (sym bb) x)
+        rw (begin_by left a None e, begin_by left b None eb, entered_is m left a p o, entered_is m left b pb ob)
+        (record { events = ap (λ es. Event.Enter m left ∷ es) r.events; related = r.related })
 
     -- ---- an instruction begins
     enter_same : (left : ℕ) → (enter left a).state.active ≡ (enter left b).state.active
@@ -245,8 +239,7 @@ module _ (m : ℕ) (own : Module) (key text : List ℕ) where
     begin_checked left None small e = begin_free left (is_id m (enter left a).state.active) small e refl
     begin_checked left (Some d) small e =
         let eb : check b ≡ Some d = sym check_same ∙ e in
-        let r = both_light (denied d) (λ s. refl) (λ s k n. (refl, refl, refl, refl, refl)) in
-        subst (λ u. Alike m own key text answers u (begin left b)) (sym (begin_by left a (Some d) e)) (subst (λ u. Alike m own key text answers (denied d a) u) (sym (begin_by left b (Some d) eb)) r)
+        rw (begin_by left a (Some d) e, begin_by left b (Some d) eb) (both_light (denied d) (λ s. refl) (λ s k n. (refl, refl, refl, refl, refl)))
 
     begin_alike : (left : ℕ) → left < 65536 → Alike m own key text answers (begin left a) (begin left b)
     begin_alike left small = begin_checked left (check a) small refl
@@ -271,12 +264,9 @@ module _ (m : ℕ) (own : Module) (key text : List ℕ) where
 
     pub outside_turn : (left : ℕ) → left < 65536 → Alike m own key text answers (turn left a) (turn left b)
     outside_turn left small =
-        let d : due a ≡ due b = sym (due_hidden m own a) ∙ ap due ready.twins.seen ∙ due_hidden m own b in
-        let r = by_cases (due a) a.active a.phase left small refl refl (sym (ap (λ (s : State). s.phase) veiled)) in
-        let r1 = subst (λ x. Alike m own key text answers (turn_at (due a) a.active a.phase left a) (turn_at x a.active a.phase left b)) d r in
-        let r2 = subst (λ x. Alike m own key text answers (turn_at (due a) a.active a.phase left a) (turn_at (due b) x a.phase left b)) same_active r1 in
-        let r3 = subst (λ x. Alike m own key text answers (turn_at (due a) a.active a.phase left a) (turn_at (due b) b.active x left b)) (ap (λ (s : State). s.phase) veiled) r2 in
-        subst (λ t. Alike m own key text answers t (turn left b)) (sym (turn_is left a)) (subst (λ t. Alike m own key text answers (turn_at (due a) a.active a.phase left a) t) (sym (turn_is left b)) r3)
+        let d : due b ≡ due a = sym (due_hidden m own b) ∙ sym (ap due ready.twins.seen) ∙ due_hidden m own a in
+        let p : b.phase ≡ a.phase = ap (λ (s : State). s.phase) (sym veiled) in
+        rw (turn_is left a, turn_as left b (due a) a.active a.phase d (sym same_active) p) (by_cases (due a) a.active a.phase left small refl refl p)
 
   -- ---- one run alone: while the module is held, no turn moves it
   module _ (s : State) (k : Keeps m own key text s) (out : is_id m s.active ≡ false) (ok : IsCore s.core) (r : Backup) (held : find_held m s.frames ≡ Some r) where

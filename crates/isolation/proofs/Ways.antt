@@ -1,44 +1,44 @@
 -- What holds of each way that a step can go holds of the step.
-use Rattle.std.proofs.Common.{◌≡◌, ℕ, zero, suc, ◌+◌, ◌-◌, List, [], ◌∷◌, refl, sym, subst, Bool, true, false, cond, Option, Some, None, unwrap_or, drop, ap}
-use Rattle.sm_words.specs.Words.{word_at}
+use Rattle.std.proofs.Common.{◌≡◌, ℕ, zero, suc, ◌+◌, ◌-◌, List, [], ◌∷◌, refl, sym, subst, Bool, true, false, cond, Option, Some, None, unwrap_or, drop, ap, ◌⊎◌, ⊎_elim, ◌++◌}
+use Rattle.attest.specs.Done.{own_of}
+use Rattle.cpu_step.specs.Asked.{asks, table_after}
+use Rattle.cpu_step.specs.Fetched.{insn_at}
+use Rattle.devices.specs.Devices.{Devices}
+use Rattle.image_text.specs.Image.{Image}
 use Rattle.insn_decode.specs.Code.{insn_of, length_of}
 use Rattle.insn_decode.specs.declared.insn.Insn.{Insn}
 use Rattle.insn_decode.specs.declared.insn.Insn.TheVariants.{Reti}
-use Rattle.schedule_file.specs.declared.Entry.{Entry as Scheduled}
+use Rattle.isolation.specs.Calls.{rest_of}
+use Rattle.mod_layout.specs.First.{first_in}
 use Rattle.mod_layout.specs.Table.{place_of}
 use Rattle.mod_layout.specs.declared.Module.{Module}
 use Rattle.mod_layout.specs.declared.Place.{Place}
 use Rattle.mod_layout.specs.declared.Place.TheVariants.{Entry}
-use Rattle.mod_layout.specs.First.{first_in}
 use Rattle.pc_access.specs.Rights.{right}
 use Rattle.pc_access.specs.declared.Denied.{Denied}
 use Rattle.pc_access.specs.declared.Rule.{Rule}
 use Rattle.pc_access.specs.declared.Rule.TheVariants.{Illegal, Straddle, RetiInside}
 use Rattle.pc_access.specs.declared.Stop.{Stop}
-use Rattle.devices.specs.Devices.{Devices}
-use Rattle.image_text.specs.Image.{Image}
-use Rattle.irq_padding.specs.declared.TheConstants.{RESUMPTION}
 use Rattle.reg_backup.specs.Held.{held_ids}
-use Rattle.reg_backup.specs.declared.backup.Backup.{Backup}
 use Rattle.reg_backup.specs.declared.backup.After.{After}
 use Rattle.reg_backup.specs.declared.backup.After.TheVariants.{Next, Handler, Resume, Close}
+use Rattle.reg_backup.specs.declared.backup.Backup.{Backup}
 use Rattle.reg_backup.specs.declared.backup.Phase.{Phase}
 use Rattle.reg_backup.specs.declared.backup.Phase.TheVariants.{Run, Pad}
 use Rattle.reg_backup.specs.declared.frames.Frame.{Frame}
 use Rattle.reg_backup.specs.declared.frames.Frame.TheVariants.{Module as Held}
-use Rattle.attest.specs.Done.{own_of}
-use Rattle.cpu_step.specs.Asked.{asks, table_after}
-use Rattle.cpu_step.specs.Fetched.{insn_at}
-use Rattle.cpu_step.specs.Plan.{past}
+use Rattle.schedule_file.specs.declared.Entry.{Entry as Scheduled}
+use Rattle.sm_words.specs.Words.{word_at}
 use Rattle.tracer.specs.declared.Event.{Event}
 use Rattle.tracer.specs.declared.Event.TheVariants.{Enter as Entered}
+use Rattle.written_machine.proofs.Stops.{cycle_by}
 use Rattle.written_machine.specs.Cycle.{Step, Settled, quiet, told, stopped, denied, unsettled, pc_of, byte_of, in_text, resume_from, close_of, leave_if, settle_by, settle_in, settle, ticked, due, arrive_outside, push_both, pushes, who_of, perform, attempt, returned_by, reti_by, act_on, act_home, act_first, act, is_home, enter_at, enter, fetch, begin, padded, turn, sent_event, counted_by, move, unless, arrive_inside}
+use Rattle.written_machine.specs.Passing.{asleep}
 use Rattle.written_machine.specs.State.{State}
 use Rattle.written_machine.specs.View.{at, boot}
-use Rattle.written_machine.proofs.Stops.{cycle_by}
-use Rattle.written_machine.specs.Passing.{asleep}
+use Rattle.irq_padding.specs.declared.TheConstants.{RESUMPTION}
+use Rattle.cpu_step.specs.Plan.{past}
 use Rattle.isolation.proofs.Cases.{turn_at, turn_unless, turn_is, interrupted}
-use Rattle.isolation.specs.Calls.{rest_of}
 
 module _ (s : State) (P : Step → Type 0) where
   unless_ways : (insn : Insn) (d : Option Denied) → first_in (right s.table s.active (held_ids s.frames)) (asks (who_of s) insn s.core) ≡ d → ((d : Denied) → P (denied d s))
@@ -189,6 +189,13 @@ perform_tells P none made insn s = by _ (table_after s.table insn s.core).given
 pub sent_tells : (P : List Event → Type 0) → P [] → ((b : ℕ) → P (Event.Out b ∷ [])) → (o : Option ℕ) → P (sent_event o)
 sent_tells P none sent None = none
 sent_tells P none sent (Some b) = sent b
+
+-- what neither settling tells nor a sent byte, the turn tells
+pub turn_tells : (P : List Event → Type 0) → ((xs ys : List Event) → P (xs ++ ys) → P xs ⊎ P ys) → ((o : Option ℕ) → P (sent_event o) → ⊥) →
+    (o : Option Stop) (es : List Event) (t : Step) → (P es → ⊥) → P (counted_by o (told es t)).events → P t.events
+turn_tells P split sent (Some stop) es t n h = ⊎_elim (λ x. absurd (n x)) (λ x. x) (split es t.events h)
+turn_tells P split sent None es t n h =
+    ⊎_elim (λ y. ⊎_elim (λ x. absurd (n x)) (λ x. x) (split es t.events y)) (λ x. absurd (sent t.state.devices.sent x)) (split (es ++ t.events) (sent_event t.state.devices.sent) h)
 
 -- of a turn, by what holds of its instruction: also where it enters a module
 pub record EachTurn (A P : State → Step → Type 0) : Type 0 where

@@ -1,11 +1,11 @@
 -- A whole cycle, and a whole run.
 use Rattle.std.proofs.Common.{◌≡◌, ◌≢◌, inl, inr, ⊎_elim, ℕ, zero, suc, ◌+◌, ◌*◌, ◌<◌, ◌≤◌, List, [], ◌∷◌, ◌++◌, length, get_or, map, replicate, refl, sym, ap, ◌∙◌, subst, arith, Bool, true, false, nat_lt, cond, ◌==◌, Option, Some, None, All, filter, ext_get_or}
-use Rattle.std.specs.List.{list_all}
-use Rattle.std.proofs.lemmas.List.Elements.{All-nil}
-use Rattle.std.proofs.lemmas.Bool.Decides.{nat_tests}
-use mathlib.Core.Path.{fun_ext}
-use Rattle.sm_words.specs.Words.{cleared, put, reg, word_at, IsCore}
-use Rattle.schedule_file.specs.declared.Entry.{Entry as Scheduled}
+use Rattle.cpu_step.specs.Lone.{is_answer, blank}
+use Rattle.devices.specs.Devices.{Devices}
+use Rattle.image_text.specs.Image.{Image, IsImage}
+use Rattle.isolation.specs.Calls.{EndsCall, ends_call, AnswersAgree}
+use Rattle.mod_layout.proofs.Found.{ends_of, share_sym}
+use Rattle.mod_layout.proofs.TableLemmas.{apart_of}
 use Rattle.mod_layout.specs.Table.{Table, size_of, module_of, holds, place_of}
 use Rattle.mod_layout.specs.declared.Module.{Module}
 use Rattle.mod_layout.specs.declared.Place.{Place}
@@ -13,21 +13,25 @@ use Rattle.mod_layout.specs.declared.Place.TheVariants.{Data}
 use Rattle.mod_layout.specs.declared.Section.{Section}
 use Rattle.pc_access.specs.Rights.{is_id}
 use Rattle.pc_access.specs.declared.Stop.{Stop}
-use Rattle.devices.specs.Devices.{Devices}
-use Rattle.image_text.specs.Image.{Image, IsImage}
 use Rattle.reg_backup.specs.declared.backup.Backup.{Backup}
 use Rattle.reg_backup.specs.declared.frames.Frame.{Frame}
 use Rattle.reg_backup.specs.declared.frames.Frame.TheVariants.{Plain, Module as Held}
+use Rattle.schedule_file.specs.declared.Entry.{Entry as Scheduled}
+use Rattle.sm_words.specs.Status.{is_gie}
+use Rattle.sm_words.specs.Words.{cleared, put, reg, word_at, IsCore}
+use Rattle.std.proofs.lemmas.Bool.{cases_lt}
+use Rattle.std.proofs.lemmas.Bool.Decides.{nat_tests}
 use Rattle.tracer.specs.declared.Event.{Event}
-use Rattle.cpu_step.specs.Lone.{is_answer, blank}
-use Rattle.cpu_step.proofs.Blank.{no_answer_differs}
+use Rattle.written_machine.proofs.Stops.{cycle_by}
 use Rattle.written_machine.specs.Cycle.{Step, Settled, told, settle, ticked, turn, sent_event, counted_by, move, cycle}
 use Rattle.written_machine.specs.Peers.{section, PeersBut, Peers}
 use Rattle.written_machine.specs.State.{State}
 use Rattle.written_machine.specs.View.{boot, at, is_hidden_by, Seen, seen_frame, seen_byte, View, view_of}
 use Rattle.written_machine.specs.declared.Hidden.TheVariants.{Only}
-use Rattle.written_machine.proofs.Stops.{cycle_by}
-use Rattle.isolation.specs.Calls.{EndsCall, ends_call, AnswersAgree}
+use Rattle.std.specs.List.{list_all}
+use Rattle.std.proofs.lemmas.List.Elements.{All-nil}
+use mathlib.Core.Path.{fun_ext}
+use Rattle.cpu_step.proofs.Blank.{no_answer_differs}
 use Rattle.isolation.proofs.Active.{active_turn}
 use Rattle.isolation.proofs.EvenBy.{each_bound}
 use Rattle.isolation.proofs.Bytes.{Out, get_cleared, length_cleared, get_in_cleared, part_cleared}
@@ -40,11 +44,7 @@ use Rattle.isolation.proofs.Settled.{passing_stays, ticked_stays}
 use Rattle.isolation.proofs.Settling.{ticked_hidden, gie_hidden}
 use Rattle.isolation.proofs.Tables.{sound_from}
 use Rattle.isolation.proofs.Turns.{outside_turn}
-use Rattle.std.proofs.lemmas.Bool.{cases_lt}
 use Rattle.isolation.proofs.Tame.{ticked_active, settled_ends, move_filter, cycle_ends}
-use Rattle.sm_words.specs.Status.{is_gie}
-use Rattle.mod_layout.proofs.Found.{ends_of, share_sym}
-use Rattle.mod_layout.proofs.TableLemmas.{apart_of}
 
 module _ (m : ℕ) (own : Module) (key text answers : List ℕ) (answers_ok : list_all is_answer answers ≡ true) where
   ticked_twins : (a b : State) → Twins m own key text answers a b → Twins m own key text answers (ticked a) (ticked b)
@@ -204,9 +204,6 @@ module _ (m : ℕ) (own : Module) (key text answers : List ℕ) (answers_ok : li
       r
 
 -- ---- the beginning
-out_holds : (r : Section) (x : ℕ) → r.end ≤ 65504 → 65504 ≤ x → holds r x ≡ false
-out_holds r x e h = grind (arith, nat_tests)
-
 not_in : (r : Section) (x : ℕ) → holds r x ≡ false → r.start < r.end → r.start ≤ x → r.start + size_of r ≤ x
 not_in r x e o low = ⊎_elim (λ lt. absurd (let t = holds_in r x low lt in let f : true ≡ false = sym t ∙ e in cc)) (λ ge. omega arith) (cases_lt x r.end)
 
@@ -218,7 +215,7 @@ module _ (a b : Image) (m : ℕ) (answers : List ℕ) (schedule : List Scheduled
   sound_a = sound_from m own a.table peers.differ.images.0.table_ok peers.differ.owned
 
   out_byte : (x : ℕ) → 65504 ≤ x → get_or a.memory x 0 ≡ get_or b.memory x 0
-  out_byte x h = peers.differ.elsewhere x (out_holds own.ram x sound_a.own_ok.ram_ok.high h)
+  out_byte x h = peers.differ.elsewhere x (let e = sound_a.own_ok.ram_ok.high in grind (arith, nat_tests))
 
   by_place : (i : ℕ) (c : Bool) → holds own.ram i ≡ c → get_or (cleared own.ram.start (size_of own.ram) a.memory) i 0 ≡ get_or (cleared own.ram.start (size_of own.ram) b.memory) i 0
   by_place i true e =
@@ -310,27 +307,8 @@ module _ (a b : Image) (m : ℕ) (answers : List ℕ) (schedule : List Scheduled
 pub none_differs : (a b : Image) (m : ℕ) (schedule : List Scheduled) (k : ℕ) → AnswersAgree a b m [] schedule k
 none_differs a b m schedule k j lt e = All-nil (λ r. reg (at a schedule j).core r ≡ reg (at b schedule j).core r)
 
-module _ (a b : Image) (m : ℕ) (schedule : List Scheduled) (peers : Peers a b m) where
-  related : (k : ℕ) → RelatedAt a b m [] schedule peers k
-  related k = related_at a b m [] schedule peers k (none_differs a b m schedule k)
-
-  pub views_equal : (k : ℕ) → view_of (at a schedule k) (Only m) ≡ view_of (at b schedule k) (Only m)
-  views_equal k = views_while a b m [] schedule peers k (none_differs a b m schedule k)
-
-  pub events_equal : (k : ℕ) → (cycle (at a schedule k)).events ≡ (cycle (at b schedule k)).events
-  events_equal k = events_while a b m [] schedule peers k (none_differs a b m schedule (suc k))
-
-  pub callers_equal : (k : ℕ) → (at a schedule k).caller ≡ (at b schedule k).caller
-  callers_equal k = callers_while a b m [] schedule peers k (none_differs a b m schedule k)
-
-  pub gie_equal : (k : ℕ) → is_gie (at a schedule k).core ≡ is_gie (at b schedule k).core
-  gie_equal k = gie_while a b m [] schedule peers k (none_differs a b m schedule k)
-
-  -- while the module is not active
-  pub phases_equal : (k : ℕ) → is_id m (at a schedule k).active ≡ false →
-      ((at a schedule k).phase ≡ (at b schedule k).phase) × ((at a schedule k).after ≡ (at b schedule k).after)
-  phases_equal k e = phases_while a b m [] schedule peers k (none_differs a b m schedule k) e
-
-  -- once the module has left the table
-  pub gone_equal : (k : ℕ) → module_of m (at a schedule k).table ≡ None → at a schedule k ≡ at b schedule k
-  gone_equal k e = ⊎_elim (λ p. p) (λ x. absurd (let f : Some peers.owner ≡ None = sym x.keeps_a.sound.found ∙ e in cc)) (related k)
+-- once the module has left the table
+pub gone_equal : (a b : Image) (m : ℕ) (schedule : List Scheduled) (peers : Peers a b m) (k : ℕ) → module_of m (at a schedule k).table ≡ None → at a schedule k ≡ at b schedule k
+gone_equal a b m schedule peers k e =
+    ⊎_elim (λ p. p) (λ x. absurd (let f : Some peers.owner ≡ None = sym x.keeps_a.sound.found ∙ e in cc))
+    (related_at a b m [] schedule peers k (none_differs a b m schedule k))
