@@ -32,7 +32,7 @@ use Rattle.obj_write.specs.Symbols as own
 use Rattle.obj_write.specs.Relocations.{relocation_entry, relocation_table, relocations_in}
 use Rattle.obj_write.specs.internal.Object.{no_part}
 use Rattle.obj_write.specs.Object.{section_type, symbols_head, strings_head, relocations_head, symtab_index, shstrtab_index, relocated_in, object_section_names, file_sections, object_of}
-use Rattle.obj_write.proofs.ReadLemmas.{Stands, stands_left, stands_right, stands_below, stands_each, length_below, word_read, word_low, half_read, byte_read, header}
+use Rattle.obj_write.proofs.ReadLemmas.{Stands, stands_left, stands_right, stands_part, stands_below, stands_each, length_below, word_read, word_low, half_read, byte_read, header}
 use Rattle.obj_write.proofs.FileLemmas.{nothing_below, no_head}
 use Rattle.obj_write.proofs.TableLemmas.{no_section}
 use Rattle.obj_write.proofs.RelocationLemmas.{no_relocation}
@@ -109,19 +109,13 @@ pub entry_read : (file : List ℕ) (table : Header) (index name : ℕ) (s : Symb
 unfolding table_entry symbol_entry
 entry_read file table index name s small home stands =
     let at : ℕ = table.offset + 16 * index in
-    let t₃ : List ℕ = info_of s.global ∷ (0 ∷ half_bytes (home_index s.home)) in
-    let t₂ : List ℕ = long_bytes 0 ++ t₃ in
-    let t₁ : List ℕ = long_bytes s.value ++ t₂ in
-    let s₁ = stands_right file at (at + 4) (long_bytes name) t₁ refl stands in
-    let s₂ = stands_right file (at + 4) (at + 8) (long_bytes s.value) t₂ (omega arith) s₁ in
-    let s₃ = stands_right file (at + 8) (at + 12) (long_bytes 0) t₃ (omega arith) s₂ in
-    let s₄ = stands_right file (at + 12) (at + 14) (info_of s.global ∷ (0 ∷ [])) (half_bytes (home_index s.home)) (omega arith) s₃ in
+    let part : (n m : ℕ) → ltb 16 n ≡ false → Stands file (at + n) (take m (drop n (symbol_entry name s))) = λ n m within. stands_part file (symbol_entry name s) at n m within stands in
     record {
-      name_is = word_read file at name small (stands_left file at (long_bytes name) t₁ stands);
-      value = word_low file (at + 4) s.value (stands_left file (at + 4) (long_bytes s.value) t₂ s₁);
-      size = word_read file (at + 8) 0 (omega arith) (stands_left file (at + 8) (long_bytes 0) t₃ s₂);
-      binding = ap (λ n. n / 16) (byte_read file (at + 12) (info_of s.global) (0 ∷ half_bytes (home_index s.home)) s₃);
-      section = half_read file (at + 14) (home_index s.home) home s₄;
+      name_is = word_read file at name small (stands_left file at (long_bytes name) (drop 4 (symbol_entry name s)) stands);
+      value = word_low file (at + 4) s.value (part 4 4 refl);
+      size = word_read file (at + 8) 0 (omega arith) (part 8 4 refl);
+      binding = ap (λ n. n / 16) (byte_read file (at + 12) (info_of s.global) [] (part 12 1 refl));
+      section = half_read file (at + 14) (home_index s.home) home (part 14 2 refl);
     }
 
 pub home_few : (sections : ℕ) (o : Option ℕ) → sections ≤ 256 → ((k : ℕ) → o ≡ Some k → k < sections) → home_index o ≤ sections
@@ -218,11 +212,7 @@ relocation_stands file at rs section e lt s =
 
 pub info_read : (file : List ℕ) (at : ℕ) (r : AsmRelocation) → r.symbol < 1048576 → Stands file at (relocation_entry r) → long_at file (at + 4) ≡ (r.symbol + 1) * 256 + 5
 unfolding relocation_entry
-info_read file at r few s =
-    let info : ℕ = (r.symbol + 1) * 256 + 5 in
-    let t₂ : List ℕ = long_bytes 0 ++ [] in
-    let t₁ : List ℕ = long_bytes info ++ t₂ in
-    word_read file (at + 4) info (omega arith) (stands_left file (at + 4) (long_bytes info) t₂ (stands_right file at (at + 4) (long_bytes r.offset) t₁ refl s))
+info_read file at r few s = word_read file (at + 4) ((r.symbol + 1) * 256 + 5) (omega arith) (stands_part file (relocation_entry r) at 4 4 refl s)
 
 relocation_entry_by : (unit : UnitValue) → IsUnit unit → (j i symbols : ℕ) → j < length (relocated_in unit) → symbols ≡ suc (length unit.symbols)
     → (e : ℕ) → e < (relocations_head_read unit j).size / 12 → entry_fault (object_of unit) symbols i (relocations_head_read unit j) e ≡ None

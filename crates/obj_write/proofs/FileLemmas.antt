@@ -1,5 +1,5 @@
 -- What the object reader reads of a file of sections: its header and the headers of its sections.
-use Rattle.std.proofs.Common.{◌≡◌, ℕ, zero, suc, ◌+◌, ◌*◌, ◌<◌, ◌≤◌, ◌^◌, List, [], ◌∷◌, ◌++◌, refl, ap, sym, subst, ◌∙◌, arith, length, length-append, false, ltb, slice_index, Option, None, replicate}
+use Rattle.std.proofs.Common.{◌≡◌, ℕ, zero, suc, ◌+◌, ◌*◌, ◌<◌, ◌≤◌, ◌^◌, List, [], ◌∷◌, ◌++◌, refl, ap, sym, subst, ◌∙◌, arith, length, length-append, take, drop, false, ltb, slice_index, Option, None, replicate}
 use Rattle.std.proofs.lemmas.Bool.Decides.{nat_tests}
 use Rattle.std.proofs.lemmas.List.{append-nil}
 use Rattle.elf_objects.specs.Bytes.{half_at, long_at}
@@ -11,7 +11,7 @@ use Rattle.elf_objects.specs.Numbers.{file_header_size, section_header_size}
 use Rattle.obj_write.specs.Bytes.{half_bytes, long_bytes}
 use Rattle.obj_write.specs.Sections.{FileSection, padded_contents, head_bytes, header_table}
 use Rattle.obj_write.specs.Object.{identification, file_header, file_bytes}
-use Rattle.obj_write.proofs.ReadLemmas.{Stands, stands_left, stands_right, stands_within, word_read, half_read, byte_read, IsSmall, header, header_read, stands_below, length_below}
+use Rattle.obj_write.proofs.ReadLemmas.{Stands, stands_left, stands_right, stands_within, stands_part, word_read, half_read, byte_read, IsSmall, header, header_read, stands_below, length_below}
 use Rattle.obj_write.proofs.TableLemmas.{head_at, table_below}
 
 -- ---- tests
@@ -79,48 +79,19 @@ record IsHeaded (file : List ℕ) (table count names : ℕ) : Type 0 where
 headed : (file : List ℕ) (table count names : ℕ) → table < 2 ^ 32 → count < 2 ^ 16 → names < 2 ^ 16 → Stands file 0 (file_header table count names) → IsHeaded file table count names
 unfolding file_header
 headed file table count names small few low s =
-    let t₁₃ : List ℕ = half_bytes names in
-    let t₁₂ : List ℕ = half_bytes count ++ t₁₃ in
-    let t₁₁ : List ℕ = half_bytes 40 ++ t₁₂ in
-    let t₁₀ : List ℕ = half_bytes 0 ++ t₁₁ in
-    let t₉ : List ℕ = half_bytes 0 ++ t₁₀ in
-    let t₈ : List ℕ = half_bytes 52 ++ t₉ in
-    let t₇ : List ℕ = long_bytes 0 ++ t₈ in
-    let t₆ : List ℕ = long_bytes table ++ t₇ in
-    let t₅ : List ℕ = long_bytes 0 ++ t₆ in
-    let t₄ : List ℕ = long_bytes 0 ++ t₅ in
-    let t₃ : List ℕ = long_bytes 1 ++ t₄ in
-    let t₂ : List ℕ = half_bytes 105 ++ t₃ in
-    let t₁ : List ℕ = half_bytes 1 ++ t₂ in
-    let i₁ : List ℕ = 1 ∷ (1 ∷ (1 ∷ (replicate 9 0 ++ t₁))) in
-    let s₁ = stands_right file 0 16 identification t₁ refl s in
-    let s₂ = stands_right file 16 18 (half_bytes 1) t₂ refl s₁ in
-    let s₃ = stands_right file 18 20 (half_bytes 105) t₃ refl s₂ in
-    let s₄ = stands_right file 20 24 (long_bytes 1) t₄ refl s₃ in
-    let s₅ = stands_right file 24 28 (long_bytes 0) t₅ refl s₄ in
-    let s₆ = stands_right file 28 32 (long_bytes 0) t₆ refl s₅ in
-    let s₇ = stands_right file 32 36 (long_bytes table) t₇ refl s₆ in
-    let s₈ = stands_right file 36 40 (long_bytes 0) t₈ refl s₇ in
-    let s₉ = stands_right file 40 42 (half_bytes 52) t₉ refl s₈ in
-    let s₁₀ = stands_right file 42 44 (half_bytes 0) t₁₀ refl s₉ in
-    let s₁₁ = stands_right file 44 46 (half_bytes 0) t₁₁ refl s₁₀ in
-    let s₁₂ = stands_right file 46 48 (half_bytes 40) t₁₂ refl s₁₁ in
-    let s₁₃ = stands_right file 48 50 (half_bytes count) t₁₃ refl s₁₂ in
-    let b₄ = stands_right file 0 4 (long_bytes 0x464c457f) i₁ refl s in
-    let b₅ = stands_right file 4 5 (1 ∷ []) (1 ∷ (1 ∷ (replicate 9 0 ++ t₁))) refl b₄ in
-    let b₆ = stands_right file 5 6 (1 ∷ []) (1 ∷ (replicate 9 0 ++ t₁)) refl b₅ in
+    let part : (n m : ℕ) → ltb 52 n ≡ false → Stands file (0 + n) (take m (drop n (file_header table count names))) = λ n m within. stands_part file (file_header table count names) 0 n m within s in
     record {
-      magic = word_read file 0 0x464c457f (omega arith) (stands_left file 0 (long_bytes 0x464c457f) i₁ s);
-      class = byte_read file 4 1 (1 ∷ (1 ∷ (replicate 9 0 ++ t₁))) b₄;
-      order = byte_read file 5 1 (1 ∷ (replicate 9 0 ++ t₁)) b₅;
-      version = byte_read file 6 1 (replicate 9 0 ++ t₁) b₆;
-      kind = half_read file 16 1 (omega arith) (stands_left file 16 (half_bytes 1) t₂ s₁);
-      machine = half_read file 18 105 (omega arith) (stands_left file 18 (half_bytes 105) t₃ s₂);
-      version_too = word_read file 20 1 (omega arith) (stands_left file 20 (long_bytes 1) t₄ s₃);
-      table_at = word_read file 32 table small (stands_left file 32 (long_bytes table) t₇ s₆);
-      entry = half_read file 46 40 (omega arith) (stands_left file 46 (half_bytes 40) t₁₂ s₁₁);
-      counted = half_read file 48 count few (stands_left file 48 (half_bytes count) t₁₃ s₁₂);
-      strings_at = half_read file 50 names low s₁₃;
+      magic = word_read file 0 0x464c457f (omega arith) (part 0 4 refl);
+      class = byte_read file 4 1 [] (part 4 1 refl);
+      order = byte_read file 5 1 [] (part 5 1 refl);
+      version = byte_read file 6 1 [] (part 6 1 refl);
+      kind = half_read file 16 1 (omega arith) (part 16 2 refl);
+      machine = half_read file 18 105 (omega arith) (part 18 2 refl);
+      version_too = word_read file 20 1 (omega arith) (part 20 4 refl);
+      table_at = word_read file 32 table small (part 32 4 refl);
+      entry = half_read file 46 40 (omega arith) (part 46 2 refl);
+      counted = half_read file 48 count few (part 48 2 refl);
+      strings_at = half_read file 50 names low (part 50 2 refl);
     }
 
 length_first : (table count names : ℕ) → length (file_header table count names) ≡ 52

@@ -1,5 +1,5 @@
 -- The symbols and relocations that are read of a unit's file are the unit's.
-use Rattle.std.proofs.Common.{◌≡◌, ℕ, zero, suc, ◌+◌, ◌*◌, ◌-◌, ◌/◌, ◌%◌, ◌<◌, ◌≤◌, ◌^◌, List, [], ◌++◌, refl, ap, sym, subst, ◌∙◌, arith, add-one, length, get_or, Bool, true, false, cond, eqb, ◌&&◌, Option, Some, None}
+use Rattle.std.proofs.Common.{◌≡◌, ℕ, zero, suc, ◌+◌, ◌*◌, ◌-◌, ◌/◌, ◌%◌, ◌<◌, ◌≤◌, ◌^◌, List, [], ◌++◌, refl, ap, sym, subst, ◌∙◌, arith, add-one, length, drop, get_or, Bool, true, false, cond, eqb, ◌&&◌, Option, Some, None}
 use Rattle.std.specs.Prelude.{slice_get, pos, ℤ}
 use Rattle.std.specs.Int.{cast_signed, w32}
 use Rattle.std.specs.List.{flat_map, enumerate_from}
@@ -31,7 +31,7 @@ use Rattle.obj_write.specs.internal.Object.{no_part}
 use Rattle.obj_write.specs.Object.{section_type, section_flags, relocated_in, object_of}
 use Rattle.obj_write.specs.Reader.{IsPartRead, IsSymbolOf, binding_read, home_read, relocation_read, table_read, IsObjectOf}
 use Rattle.obj_write.proofs.PassLemmas.{each_below_same, each_numbered, all_numbered}
-use Rattle.obj_write.proofs.ReadLemmas.{Stands, stands_left, stands_right, word_read, word_low, header}
+use Rattle.obj_write.proofs.ReadLemmas.{Stands, stands_left, stands_part, word_read, word_low, header}
 use Rattle.obj_write.proofs.FileLemmas.{no_head}
 use Rattle.obj_write.proofs.SymbolLemmas.{no_symbol}
 use Rattle.obj_write.proofs.RelocationLemmas.{no_relocation}
@@ -95,16 +95,11 @@ relocation_same a b c d e f a' b' c' d' e' f' g g' p₁ p₂ p₃ p₄ p₅ p₆
 
 offset_read : (file : List ℕ) (at : ℕ) (r : AsmRelocation) → Stands file at (relocation_entry r) → long_at file at ≡ r.offset % 2 ^ 32
 unfolding relocation_entry
-offset_read file at r s = word_low file at r.offset (stands_left file at (long_bytes r.offset) (long_bytes ((r.symbol + 1) * 256 + 5) ++ (long_bytes 0 ++ [])) s)
+offset_read file at r s = word_low file at r.offset (stands_left file at (long_bytes r.offset) (drop 4 (relocation_entry r)) s)
 
 addend_read : (file : List ℕ) (at : ℕ) (r : AsmRelocation) → Stands file at (relocation_entry r) → long_at file (at + 8) ≡ 0
 unfolding relocation_entry
-addend_read file at r s =
-    let info : List ℕ = long_bytes ((r.symbol + 1) * 256 + 5) in
-    let t₂ : List ℕ = long_bytes 0 ++ [] in
-    let s₁ = stands_right file at (at + 4) (long_bytes r.offset) (info ++ t₂) refl s in
-    let s₂ = stands_right file (at + 4) (at + 8) info t₂ (omega arith) s₁ in
-    word_read file (at + 8) 0 (omega arith) (stands_left file (at + 8) (long_bytes 0) [] s₂)
+addend_read file at r s = word_read file (at + 8) 0 (omega arith) (stands_part file (relocation_entry r) at 8 4 refl s)
 
 relocation_given : (unit : UnitValue) → IsUnit unit → (j : ℕ) → j < length (relocated_in unit) → (e : ℕ) → e < length (relocations_in unit.relocations (target_of unit j))
     → relocation_of (object_of unit) (suc (length unit.sections + (3 + j))) (relocations_head_read unit j) e

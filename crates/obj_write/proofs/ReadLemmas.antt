@@ -3,7 +3,7 @@ use Rattle.std.proofs.Common.{◌≡◌, ℕ, zero, suc, ◌+◌, ◌*◌, ◌/�
 use Rattle.std.specs.List.{flat_map}
 use Rattle.std.proofs.lemmas.Bool.{cases_lt}
 use Rattle.std.proofs.lemmas.Bool.Decides.{nat_tests}
-use Rattle.std.proofs.lemmas.List.{drop_at, get_or_at}
+use Rattle.std.proofs.lemmas.List.{drop_at, get_or_at, length-take, take-append-drop}
 use Rattle.byteorder.specs.Endian.{little_number}
 use Rattle.byteorder.specs.Numbers.{little_number-reads_back}
 use Rattle.elf_objects.specs.Bytes.{half_at, long_at}
@@ -43,6 +43,14 @@ stands_within file at bytes s =
     let c : length file ≡ length (s.front ++ (bytes ++ s.rest)) = ap length s.whole in
     let d = s.begun in
     omega (arith, a, b, c, d)
+
+-- a part of bytes that stand at a place
+pub stands_part : (file bytes : List ℕ) (at n m : ℕ) → ltb (length bytes) n ≡ false → Stands file at bytes → Stands file (at + n) (take m (drop n bytes))
+stands_part file bytes at n m within s =
+    let le : n ≤ length bytes = grind (arith, nat_tests) in
+    let l = length-take n bytes in
+    let after = stands_right file at (at + n) (take n bytes) (drop n bytes) (omega (arith, l, le)) (subst (Stands file at) (sym (take-append-drop n bytes)) s) in
+    stands_left file (at + n) (take m (drop n bytes)) (drop m (drop n bytes)) (subst (Stands file (at + n)) (sym (take-append-drop m (drop n bytes))) after)
 
 unless : (b : Bool) (n : ℕ) → b ≡ false → cond b 0 n ≡ n
 unless false n e = refl
@@ -104,34 +112,17 @@ pub header_read : (file : List ℕ) (index : ℕ) (h : Head) → IsSmall h → S
 unfolding header_of head_bytes
 header_read file index h small s =
     let at : ℕ = table_offset file + 40 * index in
-    let t₉ : List ℕ = long_bytes h.entry_size ++ [] in
-    let t₈ : List ℕ = long_bytes h.align ++ t₉ in
-    let t₇ : List ℕ = long_bytes h.info ++ t₈ in
-    let t₆ : List ℕ = long_bytes h.link ++ t₇ in
-    let t₅ : List ℕ = long_bytes h.size ++ t₆ in
-    let t₄ : List ℕ = long_bytes h.offset ++ t₅ in
-    let t₃ : List ℕ = long_bytes 0 ++ t₄ in
-    let t₂ : List ℕ = long_bytes h.flags ++ t₃ in
-    let t₁ : List ℕ = long_bytes h.kind ++ t₂ in
-    let s₁ = stands_right file at (at + 4) (long_bytes h.name) t₁ refl s in
-    let s₂ = stands_right file (at + 4) (at + 8) (long_bytes h.kind) t₂ (omega arith) s₁ in
-    let s₃ = stands_right file (at + 8) (at + 12) (long_bytes h.flags) t₃ (omega arith) s₂ in
-    let s₄ = stands_right file (at + 12) (at + 16) (long_bytes 0) t₄ (omega arith) s₃ in
-    let s₅ = stands_right file (at + 16) (at + 20) (long_bytes h.offset) t₅ (omega arith) s₄ in
-    let s₆ = stands_right file (at + 20) (at + 24) (long_bytes h.size) t₆ (omega arith) s₅ in
-    let s₇ = stands_right file (at + 24) (at + 28) (long_bytes h.link) t₇ (omega arith) s₆ in
-    let s₈ = stands_right file (at + 28) (at + 32) (long_bytes h.info) t₈ (omega arith) s₇ in
-    let s₉ = stands_right file (at + 32) (at + 36) (long_bytes h.align) t₉ (omega arith) s₈ in
+    let word : (n : ℕ) → ltb 40 n ≡ false → Stands file (at + n) (take 4 (drop n (head_bytes h))) = λ n within. stands_part file (head_bytes h) at n 4 within s in
     header_same _ _ _ _ _ _ _ _ _ h.name h.kind h.flags h.offset h.size h.link h.info h.align h.entry_size
-    (word_read file at h.name small.name (stands_left file at (long_bytes h.name) t₁ s))
-    (word_read file (at + 4) h.kind small.kind (stands_left file (at + 4) (long_bytes h.kind) t₂ s₁))
-    (word_read file (at + 8) h.flags small.flags (stands_left file (at + 8) (long_bytes h.flags) t₃ s₂))
-    (word_read file (at + 16) h.offset small.offset (stands_left file (at + 16) (long_bytes h.offset) t₅ s₄))
-    (word_read file (at + 20) h.size small.size (stands_left file (at + 20) (long_bytes h.size) t₆ s₅))
-    (word_read file (at + 24) h.link small.link (stands_left file (at + 24) (long_bytes h.link) t₇ s₆))
-    (word_read file (at + 28) h.info small.info (stands_left file (at + 28) (long_bytes h.info) t₈ s₇))
-    (word_read file (at + 32) h.align small.align (stands_left file (at + 32) (long_bytes h.align) t₉ s₈))
-    (word_read file (at + 36) h.entry_size small.entry_size (stands_left file (at + 36) (long_bytes h.entry_size) [] s₉))
+    (word_read file at h.name small.name (stands_left file at (long_bytes h.name) (drop 4 (head_bytes h)) s))
+    (word_read file (at + 4) h.kind small.kind (word 4 refl))
+    (word_read file (at + 8) h.flags small.flags (word 8 refl))
+    (word_read file (at + 16) h.offset small.offset (word 16 refl))
+    (word_read file (at + 20) h.size small.size (word 20 refl))
+    (word_read file (at + 24) h.link small.link (word 24 refl))
+    (word_read file (at + 28) h.info small.info (word 28 refl))
+    (word_read file (at + 32) h.align small.align (word 32 refl))
+    (word_read file (at + 36) h.entry_size small.entry_size (word 36 refl))
 
 -- ---- parts of what is joined
 
