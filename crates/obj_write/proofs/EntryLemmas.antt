@@ -1,5 +1,5 @@
 -- The entries of the tables of symbols and relocations of a unit's file, as they are read.
-use Rattle.std.proofs.Common.{◌≡◌, ℕ, zero, suc, ◌+◌, ◌*◌, ◌/◌, ◌%◌, ◌<◌, ◌≤◌, ◌^◌, List, [], ◌∷◌, ◌++◌, refl, ap, subst, ◌∙◌, arith, length, take, drop, get_or, length-append, Bool, true, false, not, cond, ltb, eqb, ◌&&◌, ◌||◌, Option, Some, None, is_none, replicate}
+use Rattle.std.proofs.Common.{◌≡◌, ℕ, zero, suc, ◌+◌, ◌*◌, ◌/◌, ◌%◌, ◌<◌, ◌≤◌, ◌^◌, List, [], refl, ap, subst, ◌∙◌, arith, length, take, drop, get_or, length-append, Bool, true, false, not, cond, ltb, eqb, ◌&&◌, ◌||◌, Option, Some, None, is_none, replicate}
 use Rattle.std.specs.List.{flat_map}
 use Rattle.std.specs.Option.{option_map}
 use Rattle.std.proofs.lemmas.List.{length-map, length-take, take-append-drop}
@@ -24,33 +24,25 @@ use Rattle.asm_text.specs.declared.unit.SectionKind.TheVariants.{Code}
 use Rattle.asm_text.specs.declared.unit.AsmRelocation.{AsmRelocation}
 use Rattle.asm_text.specs.Parts.{SymbolValue, UnitValue, IsUnit, IsSymbolValue, IsAsmRelocation}
 use Rattle.elf_objects.specs.Numbers.{symbol_size}
-use Rattle.obj_write.specs.Bytes.{half_bytes, long_bytes}
+use Rattle.obj_write.specs.Bytes.{long_bytes}
 use Rattle.obj_write.specs.Strings.{terminated, string_table, name_at}
-use Rattle.obj_write.specs.Sections.{FileSection, content_at}
 use Rattle.obj_write.specs.Symbols.{info_of, home_index, symbol_entry, symbol_entry_at, symbol_names}
 use Rattle.obj_write.specs.Symbols as own
 use Rattle.obj_write.specs.Relocations.{relocation_entry, relocation_table, relocations_in}
 use Rattle.obj_write.specs.internal.Object.{no_part}
-use Rattle.obj_write.specs.Object.{section_type, symbols_head, strings_head, relocations_head, symtab_index, shstrtab_index, relocated_in, object_section_names, file_sections, object_of}
-use Rattle.obj_write.proofs.ReadLemmas.{Stands, stands_left, stands_right, stands_part, stands_below, stands_each, length_below, word_read, word_low, half_read, byte_read, header}
-use Rattle.obj_write.proofs.FileLemmas.{nothing_below, no_head}
-use Rattle.obj_write.proofs.TableLemmas.{no_section}
+use Rattle.obj_write.specs.Object.{section_type, relocated_in, object_of}
+use Rattle.obj_write.proofs.ReadLemmas.{Stands, stands_left, stands_right, stands_part, stands_below, stands_each, length_below, word_read, word_low, half_read, byte_read}
+use Rattle.obj_write.proofs.FileLemmas.{nothing_below}
 use Rattle.obj_write.proofs.RelocationLemmas.{no_relocation}
 use Rattle.obj_write.proofs.SymbolLemmas.{no_symbol, entry_at, entries_below}
-use Rattle.obj_write.proofs.SizeLemmas.{length_sections, symtab_at, strtab_at, relocations_at, length_relocations, length_symbols, length_symbol_at, entries_length}
+use Rattle.obj_write.proofs.SizeLemmas.{length_relocations, length_symbols, length_symbol_at, entries_length}
 use Rattle.obj_write.proofs.NameLemmas.{name_ends, content_read, symbol_strings}
-use Rattle.obj_write.proofs.UnitLemmas.{symtab_parts, strtab_parts, target_of, relocation_parts, symbol_names_few}
-use Rattle.obj_write.proofs.HeaderLemmas.{content_stands, unit_laid, counted_sections, zero_header, part_read, symtab_read, strtab_read, shstrtab_read, relocations_read}
-use Rattle.obj_write.proofs.FaultLemmas.{every_index, no_section_faults, no_compressed_faults, no_rel_faults, no_name_faults}
+use Rattle.obj_write.proofs.UnitLemmas.{target_of, symbol_names_few}
+use Rattle.obj_write.proofs.HeaderLemmas.{part_head_read, symbols_read, strings_read, relocations_head_read, symbols_stand, strings_stand, relocations_stand, unit_laid, counted_sections, symtab_read, strtab_read}
+use Rattle.obj_write.proofs.FaultLemmas.{every_header, no_section_faults, no_compressed_faults, no_rel_faults, no_name_faults}
 use Rattle.obj_write.proofs.LinkLemmas.{first_table, no_link_faults, both_none, other_index}
 
 -- ---- the table of symbols
-
-abbrev pub symbols_read : UnitValue → Header
-symbols_read unit = header (record (symbols_head (name_at (object_section_names unit) (length unit.sections)) (length (own.symbol_table_bytes unit.symbols)) unit) { offset = content_at (file_sections unit) (length unit.sections + 0) })
-
-abbrev pub strings_read : UnitValue → Header
-strings_read unit = header (record (strings_head (name_at (object_section_names unit) (length unit.sections + 1)) (length (string_table (symbol_names unit.symbols)))) { offset = content_at (file_sections unit) (length unit.sections + 1) })
 
 pub symbols_header_is : (unit : UnitValue) → IsUnit unit → symbols_header (object_of unit) ≡ Some (symbols_read unit)
 unfolding symbols_header
@@ -58,22 +50,6 @@ symbols_header_is unit is = ap (option_map (header_of (object_of unit))) (first_
 
 pub symbol_count : (unit : UnitValue) → count_in (symbols_read unit) ≡ suc (length unit.symbols)
 symbol_count unit = let n = length_symbols unit.symbols in omega (arith, n)
-
-symbols_stand : (unit : UnitValue) → IsUnit unit → Stands (object_of unit) (symbols_read unit).offset (own.symbol_table_bytes unit.symbols)
-symbols_stand unit is =
-    let k : ℕ = length unit.sections + 0 in
-    let n = length_sections unit in
-    let same : (get_or (file_sections unit) k no_section).content ≡ own.symbol_table_bytes unit.symbols = ap (λ (t : FileSection). t.content) (symtab_at unit) ∙ (symtab_parts unit).1 in
-    subst (λ (l : List ℕ). Stands (object_of unit) (content_at (file_sections unit) k) l) same
-    (content_stands (file_sections unit) (shstrtab_index unit) (object_of unit) k (unit_laid unit is) (omega (arith, n)))
-
-pub strings_stand : (unit : UnitValue) → IsUnit unit → Stands (object_of unit) (strings_read unit).offset (string_table (symbol_names unit.symbols))
-strings_stand unit is =
-    let k : ℕ = length unit.sections + 1 in
-    let n = length_sections unit in
-    let same : (get_or (file_sections unit) k no_section).content ≡ string_table (symbol_names unit.symbols) = ap (λ (t : FileSection). t.content) (strtab_at unit) ∙ (strtab_parts unit).1 in
-    subst (λ (l : List ℕ). Stands (object_of unit) (content_at (file_sections unit) k) l) same
-    (content_stands (file_sections unit) (shstrtab_index unit) (object_of unit) k (unit_laid unit is) (omega (arith, n)))
 
 pub strings_header : (unit : UnitValue) → IsUnit unit → strings_of (object_of unit) (symbols_read unit) ≡ strings_read unit
 strings_header unit is =
@@ -189,17 +165,6 @@ no_symbol_faults unit is =
 
 -- ---- relocations
 
-abbrev pub relocations_head_read : UnitValue → ℕ → Header
-relocations_head_read unit j = header (record (relocations_head (name_at (object_section_names unit) (length unit.sections + 3 + j)) (length (relocation_table unit.relocations (target_of unit j))) (symtab_index unit) (target_of unit j)) { offset = content_at (file_sections unit) (length unit.sections + (3 + j)) })
-
-pub relocations_stand : (unit : UnitValue) → IsUnit unit → (j : ℕ) → j < length (relocated_in unit) → Stands (object_of unit) (relocations_head_read unit j).offset (relocation_table unit.relocations (target_of unit j))
-relocations_stand unit is j lt =
-    let k : ℕ = length unit.sections + (3 + j) in
-    let n = length_sections unit in
-    let same : (get_or (file_sections unit) k no_section).content ≡ relocation_table unit.relocations (target_of unit j) = ap (λ (t : FileSection). t.content) (relocations_at unit j lt) ∙ (relocation_parts unit j).1 in
-    subst (λ (l : List ℕ). Stands (object_of unit) (content_at (file_sections unit) k) l) same
-    (content_stands (file_sections unit) (shstrtab_index unit) (object_of unit) k (unit_laid unit is) (omega (arith, n)))
-
 pub relocation_stands : (file : List ℕ) (at : ℕ) (rs : List AsmRelocation) (section e : ℕ) → e < length (relocations_in rs section) → Stands file at (relocation_table rs section)
     → Stands file (at + 12 * e) (relocation_entry (get_or (relocations_in rs section) e no_relocation))
 unfolding relocation_table
@@ -233,20 +198,11 @@ relocation_entry_by unit is j i symbols lt count e within =
     let there : long_at file (at + 4) / 256 < symbols = omega (arith, info, symbol, count) in
     ap (λ b. then_some (not b) (fault.Relocation i e)) (lt-ltb (long_at file (at + 4) / 256) symbols there)
 
-not_kept_by : (file : List ℕ) (symbols i : ℕ) (h : Header) → header_of file i ≡ h → eqb h.kind 4 ≡ false → relocation_fault file symbols i ≡ None
-unfolding relocation_fault
-not_kept_by file symbols i h e other =
-    ap (λ (x : Header). cond (is_kept_table file x) (first_below (entry_fault file symbols i x) (x.size / 12)) None) e
-    ∙ ap (λ b. cond b (first_below (entry_fault file symbols i h) (h.size / 12)) None) (and_left (eqb h.kind 4) (is_loaded_header (header_of file h.info)) other)
-
-kept_by : (file : List ℕ) (symbols i : ℕ) (h : Header) → header_of file i ≡ h → ((e : ℕ) → e < h.size / 12 → entry_fault file symbols i h e ≡ None) → relocation_fault file symbols i ≡ None
-unfolding relocation_fault
-kept_by file symbols i h e each =
-    ap (λ (x : Header). cond (is_kept_table file x) (first_below (entry_fault file symbols i x) (x.size / 12)) None) e
-    ∙ by (is_kept_table file h) (nothing_below (entry_fault file symbols i h) (h.size / 12) each) where
-      by : (b : Bool) → first_below (entry_fault file symbols i h) (h.size / 12) ≡ None → cond b (first_below (entry_fault file symbols i h) (h.size / 12)) None ≡ None
-      by true none = none
-      by false none = refl
+kept_by : (file : List ℕ) (symbols i : ℕ) (h : Header) → ((e : ℕ) → e < h.size / 12 → entry_fault file symbols i h e ≡ None) → cond (is_kept_table file h) (first_below (entry_fault file symbols i h) (h.size / 12)) None ≡ None
+kept_by file symbols i h each = by (is_kept_table file h) (nothing_below (entry_fault file symbols i h) (h.size / 12) each) where
+  by : (b : Bool) → first_below (entry_fault file symbols i h) (h.size / 12) ≡ None → cond b (first_below (entry_fault file symbols i h) (h.size / 12)) None ≡ None
+  by true none = none
+  by false none = refl
 
 part_kind : (K : SectionKind) → eqb (section_type K) 4 ≡ false
 part_kind Code = refl
@@ -256,19 +212,14 @@ pub count_is : (unit : UnitValue) → IsUnit unit → count_of (symbols_header (
 count_is unit is = ap count_of (symbols_header_is unit is) ∙ symbol_count unit
 
 pub no_relocation_faults : (unit : UnitValue) → IsUnit unit → relocation_faults (object_of unit) ≡ None
-unfolding relocation_faults
+unfolding relocation_faults relocation_fault
 no_relocation_faults unit is =
     let file : List ℕ = object_of unit in
-    let n : ℕ = length unit.sections in
     let symbols : ℕ = count_of (symbols_header file) in
     nothing_below (relocation_fault file symbols) (section_count file)
-    (every_index (λ i. relocation_fault file symbols i ≡ None) unit is
-    (not_kept_by file symbols 0 (header no_head) (zero_header unit is) refl)
-    (λ k lt. not_kept_by file symbols (suc k) _ (part_read unit is k lt) (part_kind (get_or unit.sections k no_part).kind))
-    (not_kept_by file symbols (suc (n + 0)) _ (symtab_read unit is) refl)
-    (not_kept_by file symbols (suc (n + 1)) _ (strtab_read unit is) refl)
-    (not_kept_by file symbols (suc (n + 2)) _ (shstrtab_read unit is) refl)
-    (λ j lt. kept_by file symbols (suc (n + (3 + j))) (relocations_head_read unit j) (relocations_read unit is j lt) (relocation_entry_by unit is j (suc (n + (3 + j))) symbols lt (count_is unit is))))
+    (every_header (λ i h. cond (is_kept_table file h) (first_below (entry_fault file symbols i h) (h.size / 12)) None ≡ None) unit is refl
+    (λ k lt. ap (λ b. cond (b && is_loaded_header (header_of file 0)) (first_below (entry_fault file symbols (suc k) (part_head_read unit k)) ((part_head_read unit k).size / 12)) None) (part_kind (get_or unit.sections k no_part).kind)) refl refl refl
+    (λ j lt. let i : ℕ = suc (length unit.sections + (3 + j)) in kept_by file symbols i (relocations_head_read unit j) (relocation_entry_by unit is j i symbols lt (count_is unit is))))
 
 -- ---- none at all
 

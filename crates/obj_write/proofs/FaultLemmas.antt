@@ -1,5 +1,5 @@
 -- The faults that the sections of a unit's file do not have: those of sections, links, names and flags.
-use Rattle.std.proofs.Common.{◌≡◌, ℕ, zero, suc, ◌+◌, ◌/◌, ◌%◌, ◌<◌, ◌≤◌, List, [], refl, ap, subst, ◌∙◌, arith, length, get_or, Bool, true, false, not, ltb, eqb, ◌&&◌, ◌||◌, Option, Some, None, is_none}
+use Rattle.std.proofs.Common.{◌≡◌, ℕ, zero, suc, ◌+◌, ◌/◌, ◌%◌, ◌<◌, ◌≤◌, List, [], refl, ap, sym, subst, ◌∙◌, arith, length, get_or, Bool, true, false, not, ltb, eqb, ◌&&◌, ◌||◌, Option, Some, None, is_none}
 use Rattle.std.proofs.lemmas.List.Elements.{All-get_or}
 use Rattle.std.proofs.lemmas.Bool.{le-ltb}
 use Rattle.elf_objects.specs.declared.fault.ElfFault.{ElfFault}
@@ -15,21 +15,30 @@ use Rattle.asm_text.specs.Parts.{SectionValue, UnitValue, IsUnit, IsSectionValue
 use Rattle.obj_write.specs.Strings.{string_table, name_at}
 use Rattle.obj_write.specs.Sections.{FileSection, content_at}
 use Rattle.obj_write.specs.internal.Object.{no_part}
-use Rattle.obj_write.specs.Object.{section_type, section_flags, strings_head, relocated_in, object_section_names, file_sections, shstrtab_index, object_of}
-use Rattle.obj_write.proofs.ReadLemmas.{Stands, header}
+use Rattle.obj_write.specs.Object.{section_type, section_flags, relocated_in, object_section_names, part_section, symtab_section, strtab_section, shstrtab_section, relocation_section, file_sections, object_of}
+use Rattle.obj_write.proofs.ReadLemmas.{header}
 use Rattle.obj_write.proofs.FileLemmas.{nothing_below, no_head}
-use Rattle.obj_write.proofs.ObjectLemmas.{length_names}
+use Rattle.obj_write.proofs.ObjectLemmas.{length_names, part_of, table_of}
 use Rattle.obj_write.proofs.TableLemmas.{no_section}
-use Rattle.obj_write.proofs.SizeLemmas.{length_sections, part_at, symtab_at, strtab_at, shstrtab_at, relocations_at, at_all}
+use Rattle.obj_write.proofs.SizeLemmas.{part_at, symtab_at, strtab_at, shstrtab_at, relocations_at, at_all}
 use Rattle.obj_write.proofs.NameLemmas.{name_ends, no_name_ends, content_read, section_strings}
-use Rattle.obj_write.proofs.UnitLemmas.{part_content, symtab_parts, strtab_parts, shstrtab_parts, relocation_parts}
-use Rattle.obj_write.proofs.HeaderLemmas.{content_stands, unit_laid, counted_sections, zero_header, part_read, symtab_read, strtab_read, shstrtab_read, relocations_read, ends_within}
+use Rattle.obj_write.proofs.HeaderLemmas.{any_header, part_head_read, symbols_read, strings_read, names_read, relocations_head_read, names_stand, unit_laid, counted_sections, zero_header, part_read, symtab_read, strtab_read, shstrtab_read, relocations_read, ends_within}
 
 -- what holds of section 0 and of each kind of section holds at each index
 pub every_index : (P : ℕ → Type 0) (unit : UnitValue) → IsUnit unit → P 0 → ((k : ℕ) → k < length unit.sections → P (suc k)) → P (suc (length unit.sections + 0)) → P (suc (length unit.sections + 1)) → P (suc (length unit.sections + 2))
     → ((j : ℕ) → j < length (relocated_in unit) → P (suc (length unit.sections + (3 + j)))) → (i : ℕ) → i < section_count (object_of unit) → P i
 every_index P unit is first parts a b c others zero lt = first
 every_index P unit is first parts a b c others (suc k) lt = let n = counted_sections unit is in at_all (λ i. P (suc i)) unit parts a b c others k (omega (arith, n))
+
+-- the same by the headers that are read
+pub every_header : (P : ℕ → Header → Type 0) (unit : UnitValue) → IsUnit unit → P 0 (header no_head) → ((k : ℕ) → k < length unit.sections → P (suc k) (part_head_read unit k)) → P (suc (length unit.sections + 0)) (symbols_read unit)
+    → P (suc (length unit.sections + 1)) (strings_read unit) → P (suc (length unit.sections + 2)) (names_read unit) → ((j : ℕ) → j < length (relocated_in unit) → P (suc (length unit.sections + (3 + j))) (relocations_head_read unit j))
+    → (i : ℕ) → i < section_count (object_of unit) → P i (header_of (object_of unit) i)
+every_header P unit is first parts a b c others =
+    let n : ℕ = length unit.sections in
+    every_index (λ i. P i (header_of (object_of unit) i)) unit is (subst (P 0) (sym (zero_header unit is)) first) (λ k lt. subst (P (suc k)) (sym (part_read unit is k lt)) (parts k lt))
+    (subst (P (suc (n + 0))) (sym (symtab_read unit is)) a) (subst (P (suc (n + 1))) (sym (strtab_read unit is)) b) (subst (P (suc (n + 2))) (sym (shstrtab_read unit is)) c)
+    (λ j lt. subst (P (suc (n + (3 + j)))) (sym (relocations_read unit is j lt)) (others j lt))
 
 -- ---- sections
 
@@ -44,93 +53,64 @@ part_sound Data len at size bytes f e le = let p : ltb len (at + size) ≡ false
 part_sound Bss len at size bytes f e le = refl
 
 part_fault : (unit : UnitValue) → IsUnit unit → (k : ℕ) → k < length unit.sections → section_fault (object_of unit) (suc k) ≡ None
-unfolding section_fault
+unfolding section_fault part_section
 part_fault unit is k lt =
     let s : SectionValue = get_or unit.sections k no_part in
-    let within = ends_within unit is k (omega arith) in
-    let sized : length ((get_or (file_sections unit) k no_section).content) ≡ length s.bytes = ap (λ (t : FileSection). length t.content) (part_at unit k lt) ∙ ap length (part_content unit k) in
+    let within : content_at (file_sections unit) k + length s.bytes ≤ length (object_of unit) = ends_within unit is k (part_of unit k) (omega arith) (part_at unit k lt) in
     let h = All-get_or IsSectionValue unit.sections k no_part lt is.sections_kept in
-    rw (part_read unit is k lt) (part_sound s.kind (length (object_of unit)) (content_at (file_sections unit) k) s.size (length s.bytes) (fault.Section (suc k)) h.filled (omega (arith, within, sized)))
+    rw (part_read unit is k lt) (part_sound s.kind (length (object_of unit)) (content_at (file_sections unit) k) s.size (length s.bytes) (fault.Section (suc k)) h.filled within)
 
 -- a table that stands in the file has no fault
-table_fault_by : (unit : UnitValue) → IsUnit unit → (k : ℕ) → k < length unit.sections + (3 + length (relocated_in unit)) → (s : FileSection) (bytes : List ℕ) (h : Header) → get_or (file_sections unit) k no_section ≡ s → s.content ≡ bytes
-    → header_of (object_of unit) (suc k) ≡ h → h.offset ≡ content_at (file_sections unit) k → h.size ≡ length bytes → is_loaded_header h ≡ false → section_fault (object_of unit) (suc k) ≡ None
+table_fault_by : (unit : UnitValue) → IsUnit unit → (k : ℕ) (s : FileSection) → k < length unit.sections + (3 + length (relocated_in unit)) → get_or (file_sections unit) k no_section ≡ s
+    → s.head.size ≡ length s.content → is_loaded s.head.kind s.head.flags ≡ false → section_fault (object_of unit) (suc k) ≡ None
 unfolding section_fault
-table_fault_by unit is k lt s bytes h at content e place size flat =
+table_fault_by unit is k s lt at size flat =
     let file : List ℕ = object_of unit in
-    let within = ends_within unit is k lt in
-    let sized : length ((get_or (file_sections unit) k no_section).content) ≡ length bytes = ap (λ (t : FileSection). length t.content) at ∙ ap length content in
-    let past : ltb (length file) (h.offset + h.size) ≡ false = le-ltb (length file) (h.offset + h.size) (omega (arith, within, sized, place, size)) in
-    ap (λ (x : Header). then_some ((not (is_absent x) && ends_past file x) || (is_loaded_header x && not (is_alignment x.align))) (fault.Section (suc k))) e
-    ∙ by (not (is_absent h)) (ltb (length file) (h.offset + h.size)) (is_loaded_header h) past flat where
-      by : (a b c : Bool) → b ≡ false → c ≡ false → then_some ((a && b) || (c && not (is_alignment h.align))) (fault.Section (suc k)) ≡ None
+    let place : ℕ = content_at (file_sections unit) k in
+    let h : Header = header (record s.head { offset = place }) in
+    let within = ends_within unit is k s lt at in
+    let past : ltb (length file) (place + s.head.size) ≡ false = le-ltb (length file) (place + s.head.size) (omega (arith, within, size)) in
+    ap (λ (x : Header). then_some ((not (is_absent x) && ends_past file x) || (is_loaded_header x && not (is_alignment x.align))) (fault.Section (suc k))) (any_header unit is k s lt at)
+    ∙ by (not (is_absent h)) (ltb (length file) (place + s.head.size)) (is_loaded_header h) past flat where
+      by : (a b c : Bool) → b ≡ false → c ≡ false → then_some ((a && b) || (c && not (is_alignment s.head.align))) (fault.Section (suc k)) ≡ None
       by true b c p q = rw (p, q) refl
       by false b c p q = rw q refl
 
-symtab_fault : (unit : UnitValue) → IsUnit unit → section_fault (object_of unit) (suc (length unit.sections + 0)) ≡ None
-symtab_fault unit is = table_fault_by unit is (length unit.sections + 0) (omega arith) _ _ _ (symtab_at unit) (symtab_parts unit).1 (symtab_read unit is) refl refl refl
-
-strtab_fault : (unit : UnitValue) → IsUnit unit → section_fault (object_of unit) (suc (length unit.sections + 1)) ≡ None
-strtab_fault unit is = table_fault_by unit is (length unit.sections + 1) (omega arith) _ _ _ (strtab_at unit) (strtab_parts unit).1 (strtab_read unit is) refl refl refl
-
-shstrtab_fault : (unit : UnitValue) → IsUnit unit → section_fault (object_of unit) (suc (length unit.sections + 2)) ≡ None
-shstrtab_fault unit is = table_fault_by unit is (length unit.sections + 2) (omega arith) _ _ _ (shstrtab_at unit) (shstrtab_parts unit).1 (shstrtab_read unit is) refl refl refl
-
-relocations_fault : (unit : UnitValue) → IsUnit unit → (j : ℕ) → j < length (relocated_in unit) → section_fault (object_of unit) (suc (length unit.sections + (3 + j))) ≡ None
-relocations_fault unit is j lt = table_fault_by unit is (length unit.sections + (3 + j)) (omega arith) _ _ _ (relocations_at unit j lt) (relocation_parts unit j).1 (relocations_read unit is j lt) refl refl refl
-
 pub no_section_faults : (unit : UnitValue) → IsUnit unit → section_faults (object_of unit) ≡ None
-unfolding section_faults
+unfolding section_faults symtab_section strtab_section shstrtab_section relocation_section
 no_section_faults unit is =
+    let n : ℕ = length unit.sections in
     nothing_below (section_fault (object_of unit)) (section_count (object_of unit))
-    (every_index (λ i. section_fault (object_of unit) i ≡ None) unit is (zero_section unit is) (part_fault unit is) (symtab_fault unit is) (strtab_fault unit is) (shstrtab_fault unit is) (relocations_fault unit is))
+    (every_index (λ i. section_fault (object_of unit) i ≡ None) unit is (zero_section unit is) (part_fault unit is)
+    (table_fault_by unit is (n + 0) (symtab_section unit) (omega arith) (symtab_at unit) refl refl)
+    (table_fault_by unit is (n + 1) (strtab_section unit) (omega arith) (strtab_at unit) refl refl)
+    (table_fault_by unit is (n + 2) (shstrtab_section unit) (omega arith) (shstrtab_at unit) refl refl)
+    (λ j lt. table_fault_by unit is (n + (3 + j)) (table_of unit j) (omega arith) (relocations_at unit j lt) refl refl))
 
 -- ---- flags
-
-compressed_by : (file : List ℕ) (i : ℕ) (h : Header) → header_of file i ≡ h → (is_loaded_header h && eqb (h.flags / 2048 % 2) 1) ≡ false → compressed_fault file i ≡ None
-unfolding compressed_fault
-compressed_by file i h e flat =
-    ap (λ (x : Header). then_some (is_loaded_header x && eqb (x.flags / 2048 % 2) 1) (fault.Compressed i)) e ∙ ap (λ b. then_some b (fault.Compressed i)) flat
 
 part_flags : (K : SectionKind) → (is_loaded (section_type K) (section_flags K) && eqb (section_flags K / 2048 % 2) 1) ≡ false
 part_flags Code = refl
 part_flags _ = refl
 
 pub no_compressed_faults : (unit : UnitValue) → IsUnit unit → compressed_faults (object_of unit) ≡ None
-unfolding compressed_faults
+unfolding compressed_faults compressed_fault
 no_compressed_faults unit is =
-    let file : List ℕ = object_of unit in
-    nothing_below (compressed_fault file) (section_count file)
-    (every_index (λ i. compressed_fault file i ≡ None) unit is
-    (compressed_by file 0 (header no_head) (zero_header unit is) refl)
-    (λ k lt. compressed_by file (suc k) _ (part_read unit is k lt) (part_flags (get_or unit.sections k no_part).kind))
-    (compressed_by file (suc (length unit.sections + 0)) _ (symtab_read unit is) refl)
-    (compressed_by file (suc (length unit.sections + 1)) _ (strtab_read unit is) refl)
-    (compressed_by file (suc (length unit.sections + 2)) _ (shstrtab_read unit is) refl)
-    (λ j lt. compressed_by file (suc (length unit.sections + (3 + j))) _ (relocations_read unit is j lt) refl))
-
-rel_by : (file : List ℕ) (i : ℕ) (h : Header) → header_of file i ≡ h → eqb h.kind 9 ≡ false → rel_fault file i ≡ None
-unfolding rel_fault
-rel_by file i h e other =
-    ap (λ (x : Header). then_some (eqb x.kind 9 && is_loaded_header (header_of file x.info)) (fault.RelSection i)) e
-    ∙ ap (λ b. then_some (b && is_loaded_header (header_of file h.info)) (fault.RelSection i)) other
+    nothing_below (compressed_fault (object_of unit)) (section_count (object_of unit))
+    (every_header (λ i h. then_some (is_loaded_header h && eqb (h.flags / 2048 % 2) 1) (fault.Compressed i) ≡ None) unit is refl
+    (λ k lt. ap (λ b. then_some b (fault.Compressed (suc k))) (part_flags (get_or unit.sections k no_part).kind)) refl refl refl (λ j lt. refl))
 
 part_kind : (K : SectionKind) → eqb (section_type K) 9 ≡ false
 part_kind Code = refl
 part_kind _ = refl
 
 pub no_rel_faults : (unit : UnitValue) → IsUnit unit → rel_faults (object_of unit) ≡ None
-unfolding rel_faults
+unfolding rel_faults rel_fault
 no_rel_faults unit is =
     let file : List ℕ = object_of unit in
     nothing_below (rel_fault file) (section_count file)
-    (every_index (λ i. rel_fault file i ≡ None) unit is
-    (rel_by file 0 (header no_head) (zero_header unit is) refl)
-    (λ k lt. rel_by file (suc k) _ (part_read unit is k lt) (part_kind (get_or unit.sections k no_part).kind))
-    (rel_by file (suc (length unit.sections + 0)) _ (symtab_read unit is) refl)
-    (rel_by file (suc (length unit.sections + 1)) _ (strtab_read unit is) refl)
-    (rel_by file (suc (length unit.sections + 2)) _ (shstrtab_read unit is) refl)
-    (λ j lt. rel_by file (suc (length unit.sections + (3 + j))) _ (relocations_read unit is j lt) refl))
+    (every_header (λ i h. then_some (eqb h.kind 9 && is_loaded_header (header_of file h.info)) (fault.RelSection i) ≡ None) unit is refl
+    (λ k lt. ap (λ b. then_some (b && is_loaded_header (header_of file 0)) (fault.RelSection (suc k))) (part_kind (get_or unit.sections k no_part).kind)) refl refl refl (λ j lt. refl))
 
 -- ---- names
 
@@ -139,15 +119,8 @@ names_at unit is = let l = unit_laid unit is in let e = l.strings in omega (arit
 
 pub names_content : (unit : UnitValue) → IsUnit unit → content (object_of unit) (header_of (object_of unit) (name_table (object_of unit))) ≡ string_table (object_section_names unit)
 names_content unit is =
-    let file : List ℕ = object_of unit in
-    let k : ℕ = length unit.sections + 2 in
-    let h : Header = header (record (strings_head (name_at (object_section_names unit) (length unit.sections + 2)) (length (string_table (object_section_names unit)))) { offset = content_at (file_sections unit) k }) in
-    let n = length_sections unit in
-    let stands = content_stands (file_sections unit) (shstrtab_index unit) file k (unit_laid unit is) (omega (arith, n)) in
-    let same : (get_or (file_sections unit) k no_section).content ≡ string_table (object_section_names unit) = ap (λ (t : FileSection). t.content) (shstrtab_at unit) ∙ (shstrtab_parts unit).1 in
-    ap (λ i. content file (header_of file i)) (names_at unit is)
-    ∙ (ap (content file) (shstrtab_read unit is)
-    ∙ content_read file h (string_table (object_section_names unit)) refl (subst (λ (l : List ℕ). Stands file (content_at (file_sections unit) k) l) same stands))
+    ap (λ i. content (object_of unit) (header_of (object_of unit) i)) (names_at unit is)
+    ∙ (ap (content (object_of unit)) (shstrtab_read unit is) ∙ content_read (object_of unit) (names_read unit) (string_table (object_section_names unit)) refl (names_stand unit is))
 
 name_by : (unit : UnitValue) → IsUnit unit → (i at end : ℕ) → (header_of (object_of unit) i).name ≡ at → end_in (string_table (object_section_names unit)) at ≡ Some end → name_fault (object_of unit) i ≡ None
 unfolding name_fault name_end

@@ -1,5 +1,5 @@
 -- What the object reader reads of a file of sections: its header and the headers of its sections.
-use Rattle.std.proofs.Common.{◌≡◌, ℕ, zero, suc, ◌+◌, ◌*◌, ◌<◌, ◌≤◌, ◌^◌, List, [], ◌∷◌, ◌++◌, refl, ap, sym, subst, ◌∙◌, arith, length, length-append, take, drop, false, ltb, slice_index, Option, None, replicate}
+use Rattle.std.proofs.Common.{◌≡◌, ℕ, zero, suc, ◌+◌, ◌*◌, ◌<◌, ◌≤◌, ◌^◌, List, [], ◌++◌, refl, ap, sym, subst, ◌∙◌, arith, length, length-append, take, drop, false, ltb, slice_index, Option, None, replicate}
 use Rattle.std.proofs.lemmas.Bool.Decides.{nat_tests}
 use Rattle.std.proofs.lemmas.List.{append-nil}
 use Rattle.elf_objects.specs.Bytes.{half_at, long_at}
@@ -8,9 +8,8 @@ use Rattle.elf_objects.specs.Header.{table_offset, section_count, name_table, he
 use Rattle.elf_objects.specs.Section.{header_of}
 use Rattle.obj_write.specs.declared.sections.Head.{Head}
 use Rattle.elf_objects.specs.Numbers.{file_header_size, section_header_size}
-use Rattle.obj_write.specs.Bytes.{half_bytes, long_bytes}
 use Rattle.obj_write.specs.Sections.{FileSection, padded_contents, head_bytes, header_table}
-use Rattle.obj_write.specs.Object.{identification, file_header, file_bytes}
+use Rattle.obj_write.specs.Object.{file_header, file_bytes}
 use Rattle.obj_write.proofs.ReadLemmas.{Stands, stands_left, stands_right, stands_within, stands_part, word_read, half_read, byte_read, IsSmall, header, header_read, stands_below, length_below}
 use Rattle.obj_write.proofs.TableLemmas.{head_at, table_below}
 

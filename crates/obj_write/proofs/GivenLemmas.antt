@@ -1,5 +1,5 @@
 -- The symbols and relocations that are read of a unit's file are the unit's.
-use Rattle.std.proofs.Common.{◌≡◌, ℕ, zero, suc, ◌+◌, ◌*◌, ◌-◌, ◌/◌, ◌%◌, ◌<◌, ◌≤◌, ◌^◌, List, [], ◌++◌, refl, ap, sym, subst, ◌∙◌, arith, add-one, length, drop, get_or, Bool, true, false, cond, eqb, ◌&&◌, Option, Some, None}
+use Rattle.std.proofs.Common.{◌≡◌, ℕ, zero, suc, ◌+◌, ◌*◌, ◌-◌, ◌/◌, ◌%◌, ◌<◌, ◌≤◌, ◌^◌, List, [], refl, ap, sym, subst, ◌∙◌, arith, add-one, length, drop, get_or, Bool, true, false, cond, eqb, ◌&&◌, Option, Some, None}
 use Rattle.std.specs.Prelude.{slice_get, pos, ℤ}
 use Rattle.std.specs.Int.{cast_signed, w32}
 use Rattle.std.specs.List.{flat_map, enumerate_from}
@@ -38,8 +38,8 @@ use Rattle.obj_write.proofs.RelocationLemmas.{no_relocation}
 use Rattle.obj_write.proofs.SizeLemmas.{length_relocations, at_all}
 use Rattle.obj_write.proofs.NameLemmas.{symbol_strings}
 use Rattle.obj_write.proofs.UnitLemmas.{target_of}
-use Rattle.obj_write.proofs.HeaderLemmas.{counted_sections, zero_header, part_read, symtab_read, strtab_read, shstrtab_read, relocations_read, target_within}
-use Rattle.obj_write.proofs.EntryLemmas.{symbols_read, symbols_header_is, symbol_count, strings_header, strings_content, strings_stand, entry_given, home_few, relocations_head_read, relocations_stand, relocation_stands, info_read}
+use Rattle.obj_write.proofs.HeaderLemmas.{symbols_read, relocations_head_read, strings_stand, relocations_stand, counted_sections, zero_header, part_read, symtab_read, strtab_read, shstrtab_read, relocations_read, target_within}
+use Rattle.obj_write.proofs.EntryLemmas.{symbols_header_is, symbol_count, strings_header, strings_content, entry_given, home_few, relocation_stands, info_read}
 use Rattle.obj_write.proofs.ReaderLemmas.{name_range, part_given}
 
 -- ---- symbols

@@ -3,6 +3,7 @@ use Rattle.std.proofs.Common.{◌≡◌, ℕ, suc, ◌+◌, ◌<◌, ◌≤◌, 
 use Rattle.std.specs.List.{flat_map}
 use Rattle.std.proofs.lemmas.List.Elements.{All-get_or}
 use Rattle.std.proofs.lemmas.List.Sums.{prefix_len-le-length}
+use Rattle.elf_objects.specs.declared.section.Header.{Header}
 use Rattle.elf_objects.specs.Header.{section_count}
 use Rattle.elf_objects.specs.Section.{header_of}
 use Rattle.asm_text.specs.declared.unit.SectionKind.{SectionKind}
@@ -15,13 +16,13 @@ use Rattle.obj_write.specs.Sections.{FileSection, padded_contents, content_at, h
 use Rattle.obj_write.specs.Symbols.{symbol_names, symbol_table_bytes, first_global}
 use Rattle.obj_write.specs.Relocations.{relocation_table}
 use Rattle.obj_write.specs.internal.Object.{no_part}
-use Rattle.obj_write.specs.Object.{section_type, section_flags, part_head, symbols_head, strings_head, relocations_head, symtab_index, relocated_in, object_section_names, symtab_section, strtab_section, shstrtab_section, file_sections, shstrtab_index, object_of}
+use Rattle.obj_write.specs.Object.{section_type, section_flags, part_head, symbols_head, strings_head, relocations_head, symtab_index, relocated_in, object_section_names, part_section, symtab_section, strtab_section, shstrtab_section, relocation_section, file_sections, shstrtab_index, object_of}
 use Rattle.obj_write.proofs.ReadLemmas.{Stands, stands_left, stands_within, stands_each, IsSmall, header}
 use Rattle.obj_write.proofs.TableLemmas.{no_section, head_at}
 use Rattle.obj_write.proofs.FileLemmas.{table_place, stands_whole, IsLaid, laid, no_head, first_header, next_header}
 use Rattle.obj_write.proofs.ObjectLemmas.{relocated_few, relocated_within, part_of, table_of}
 use Rattle.obj_write.proofs.SizeLemmas.{length_sections, part_at, symtab_at, strtab_at, shstrtab_at, relocations_at, at_all, relocations_few, length_symbols}
-use Rattle.obj_write.proofs.UnitLemmas.{part_header, symtab_parts, strtab_parts, shstrtab_parts, target_of, relocation_parts, symbol_names_few, section_names_few, name_few, few_contents}
+use Rattle.obj_write.proofs.UnitLemmas.{target_of, symbol_names_few, section_names_few, name_few, few_contents}
 
 -- ---- where contents stand
 
@@ -64,29 +65,30 @@ offset_few unit is k lt = let a = content_below (file_sections unit) k lt in let
 
 -- ---- the header of each kind of section, with its place
 
-part_of_file : (unit : UnitValue) (k : ℕ) → k < length unit.sections
-    → head_at (file_sections unit) k ≡ record (part_head (get_or unit.sections k no_part) (name_at (object_section_names unit) k)) { offset = content_at (file_sections unit) k }
-part_of_file unit k lt = head_is (file_sections unit) k (part_of unit k) (part_at unit k lt) ∙ ap (λ (h : Head). record h { offset = content_at (file_sections unit) k }) (part_header unit k)
+abbrev pub part_head_read : UnitValue → ℕ → Header
+part_head_read unit k = header (record (part_head (get_or unit.sections k no_part) (name_at (object_section_names unit) k)) { offset = content_at (file_sections unit) k })
 
-symtab_of_file : (unit : UnitValue) → head_at (file_sections unit) (length unit.sections + 0)
-    ≡ record (symbols_head (name_at (object_section_names unit) (length unit.sections)) (length (symbol_table_bytes unit.symbols)) unit) { offset = content_at (file_sections unit) (length unit.sections + 0) }
-symtab_of_file unit = head_is (file_sections unit) (length unit.sections + 0) (symtab_section unit) (symtab_at unit) ∙ ap (λ (h : Head). record h { offset = content_at (file_sections unit) (length unit.sections + 0) }) (symtab_parts unit).0
+abbrev pub symbols_read : UnitValue → Header
+symbols_read unit = header (record (symbols_head (name_at (object_section_names unit) (length unit.sections)) (length (symbol_table_bytes unit.symbols)) unit) { offset = content_at (file_sections unit) (length unit.sections + 0) })
 
-strtab_of_file : (unit : UnitValue) → head_at (file_sections unit) (length unit.sections + 1)
-    ≡ record (strings_head (name_at (object_section_names unit) (length unit.sections + 1)) (length (string_table (symbol_names unit.symbols)))) { offset = content_at (file_sections unit) (length unit.sections + 1) }
-strtab_of_file unit = head_is (file_sections unit) (length unit.sections + 1) (strtab_section unit) (strtab_at unit) ∙ ap (λ (h : Head). record h { offset = content_at (file_sections unit) (length unit.sections + 1) }) (strtab_parts unit).0
+abbrev pub strings_read : UnitValue → Header
+strings_read unit = header (record (strings_head (name_at (object_section_names unit) (length unit.sections + 1)) (length (string_table (symbol_names unit.symbols)))) { offset = content_at (file_sections unit) (length unit.sections + 1) })
 
-shstrtab_of_file : (unit : UnitValue) → head_at (file_sections unit) (length unit.sections + 2)
-    ≡ record (strings_head (name_at (object_section_names unit) (length unit.sections + 2)) (length (string_table (object_section_names unit)))) { offset = content_at (file_sections unit) (length unit.sections + 2) }
-shstrtab_of_file unit = head_is (file_sections unit) (length unit.sections + 2) (shstrtab_section unit) (shstrtab_at unit) ∙ ap (λ (h : Head). record h { offset = content_at (file_sections unit) (length unit.sections + 2) }) (shstrtab_parts unit).0
+abbrev pub names_read : UnitValue → Header
+names_read unit = header (record (strings_head (name_at (object_section_names unit) (length unit.sections + 2)) (length (string_table (object_section_names unit)))) { offset = content_at (file_sections unit) (length unit.sections + 2) })
 
-relocations_of_file : (unit : UnitValue) (j : ℕ) → j < length (relocated_in unit) → head_at (file_sections unit) (length unit.sections + (3 + j))
-    ≡ record (relocations_head (name_at (object_section_names unit) (length unit.sections + 3 + j)) (length (relocation_table unit.relocations (target_of unit j))) (symtab_index unit) (target_of unit j)) { offset = content_at (file_sections unit) (length unit.sections + (3 + j)) }
-relocations_of_file unit j lt = head_is (file_sections unit) (length unit.sections + (3 + j)) (table_of unit j) (relocations_at unit j lt) ∙ ap (λ (h : Head). record h { offset = content_at (file_sections unit) (length unit.sections + (3 + j)) }) (relocation_parts unit j).0
+abbrev pub relocations_head_read : UnitValue → ℕ → Header
+relocations_head_read unit j = header (record (relocations_head (name_at (object_section_names unit) (length unit.sections + 3 + j)) (length (relocation_table unit.relocations (target_of unit j))) (symtab_index unit) (target_of unit j)) { offset = content_at (file_sections unit) (length unit.sections + (3 + j)) })
 
 -- ---- each field fits a word
 
+small_table : (name kind size link info entry at : ℕ) → name < 2 ^ 32 → kind < 2 ^ 32 → size < 2 ^ 32 → link < 2 ^ 32 → info < 2 ^ 32 → entry < 2 ^ 32 → at < 2 ^ 32
+    → let h : Head = record { name = name; kind = kind; flags = 0; offset = at; size = size; link = link; info = info; align = 4; entry_size = entry } in IsSmall h
+small_table name kind size link info entry at a b c d e f g =
+    record { name = a; kind = b; flags = omega arith; offset = g; size = c; link = d; info = e; align = omega arith; entry_size = f }
+
 small_part : (unit : UnitValue) → IsUnit unit → (k : ℕ) → k < length unit.sections → IsSmall (head_at (file_sections unit) k)
+unfolding part_section
 small_part unit is k lt =
     let n = length_sections unit in
     let name = name_few unit is k in
@@ -95,7 +97,7 @@ small_part unit is k lt =
     let at = offset_few unit is k (omega (arith, n)) in
     let h = All-get_or IsSectionValue unit.sections k no_part lt is.sections_kept in
     let size = h.small in
-    subst IsSmall (sym (part_of_file unit k lt)) record {
+    subst IsSmall (sym (head_is (file_sections unit) k (part_of unit k) (part_at unit k lt))) record {
       name = omega (arith, name);
       kind = omega (arith, kind);
       flags = omega (arith, flags);
@@ -108,6 +110,7 @@ small_part unit is k lt =
     }
 
 small_symtab : (unit : UnitValue) → IsUnit unit → IsSmall (head_at (file_sections unit) (length unit.sections + 0))
+unfolding symtab_section
 small_symtab unit is =
     let n = length_sections unit in
     let name = name_few unit is (length unit.sections) in
@@ -116,50 +119,33 @@ small_symtab unit is =
     let few = is.few_symbols in
     let sections = is.few_sections in
     let global = global_few unit.symbols in
-    subst IsSmall (sym (symtab_of_file unit)) record {
-      name = omega (arith, name);
-      kind = omega arith;
-      flags = omega arith;
-      offset = at;
-      size = omega (arith, size, few);
-      link = omega (arith, sections);
-      info = omega (arith, global, few);
-      align = omega arith;
-      entry_size = omega arith;
-    }
-
-small_strings : (name size at : ℕ) → name < 2 ^ 32 → size < 2 ^ 32 → at < 2 ^ 32 → IsSmall (record (strings_head name size) { offset = at })
-small_strings name size at a b c = record {
-  name = a;
-  kind = omega arith;
-  flags = omega arith;
-  offset = c;
-  size = b;
-  link = omega arith;
-  info = omega arith;
-  align = omega arith;
-  entry_size = omega arith;
-}
+    subst IsSmall (sym (head_is (file_sections unit) (length unit.sections + 0) (symtab_section unit) (symtab_at unit)))
+    (small_table _ _ _ _ _ _ _ (omega (arith, name)) (omega arith) (omega (arith, size, few)) (omega (arith, sections)) (omega (arith, global, few)) (omega arith) at)
 
 small_strtab : (unit : UnitValue) → IsUnit unit → IsSmall (head_at (file_sections unit) (length unit.sections + 1))
+unfolding strtab_section
 small_strtab unit is =
     let n = length_sections unit in
     let name = name_few unit is (length unit.sections + 1) in
     let size = symbol_names_few unit is in
-    subst IsSmall (sym (strtab_of_file unit)) (small_strings _ _ _ (omega (arith, name)) (omega (arith, size)) (offset_few unit is (length unit.sections + 1) (omega (arith, n))))
+    subst IsSmall (sym (head_is (file_sections unit) (length unit.sections + 1) (strtab_section unit) (strtab_at unit)))
+    (small_table _ _ _ _ _ _ _ (omega (arith, name)) (omega arith) (omega (arith, size)) (omega arith) (omega arith) (omega arith) (offset_few unit is (length unit.sections + 1) (omega (arith, n))))
 
 small_shstrtab : (unit : UnitValue) → IsUnit unit → IsSmall (head_at (file_sections unit) (length unit.sections + 2))
+unfolding shstrtab_section
 small_shstrtab unit is =
     let n = length_sections unit in
     let name = name_few unit is (length unit.sections + 2) in
     let size = section_names_few unit is in
-    subst IsSmall (sym (shstrtab_of_file unit)) (small_strings _ _ _ (omega (arith, name)) (omega (arith, size)) (offset_few unit is (length unit.sections + 2) (omega (arith, n))))
+    subst IsSmall (sym (head_is (file_sections unit) (length unit.sections + 2) (shstrtab_section unit) (shstrtab_at unit)))
+    (small_table _ _ _ _ _ _ _ (omega (arith, name)) (omega arith) (omega (arith, size)) (omega arith) (omega arith) (omega arith) (offset_few unit is (length unit.sections + 2) (omega (arith, n))))
 
 -- a table of relocations is of a section of the unit
 pub target_within : (unit : UnitValue) (j : ℕ) → j < length (relocated_in unit) → target_of unit j < length unit.sections
 target_within unit j lt = All-get_or (λ i. i < length unit.sections) (relocated_in unit) j 0 lt (relocated_within unit.relocations (length unit.sections))
 
 small_relocations : (unit : UnitValue) → IsUnit unit → (j : ℕ) → j < length (relocated_in unit) → IsSmall (head_at (file_sections unit) (length unit.sections + (3 + j)))
+unfolding relocation_section
 small_relocations unit is j lt =
     let n = length_sections unit in
     let name = name_few unit is (length unit.sections + 3 + j) in
@@ -168,17 +154,8 @@ small_relocations unit is j lt =
     let few = is.few_relocations in
     let sections = is.few_sections in
     let target = target_within unit j lt in
-    subst IsSmall (sym (relocations_of_file unit j lt)) record {
-      name = omega (arith, name);
-      kind = omega arith;
-      flags = omega arith;
-      offset = at;
-      size = omega (arith, size, few);
-      link = omega (arith, sections);
-      info = omega (arith, target, sections);
-      align = omega arith;
-      entry_size = omega arith;
-    }
+    subst IsSmall (sym (head_is (file_sections unit) (length unit.sections + (3 + j)) (table_of unit j) (relocations_at unit j lt)))
+    (small_table _ _ _ _ _ _ _ (omega (arith, name)) (omega arith) (omega (arith, size, few)) (omega (arith, sections)) (omega (arith, target, sections)) (omega arith) at)
 
 pub small_heads : (unit : UnitValue) → IsUnit unit → (k : ℕ) → k < length unit.sections + (3 + length (relocated_in unit)) → IsSmall (head_at (file_sections unit) k)
 small_heads unit is =
@@ -200,35 +177,62 @@ counted_sections unit is = let l = unit_laid unit is in let a = l.count in let n
 pub zero_header : (unit : UnitValue) → IsUnit unit → header_of (object_of unit) 0 ≡ header no_head
 zero_header unit is = first_header (file_sections unit) (shstrtab_index unit) (object_of unit) (unit_laid unit is)
 
-any_header : (unit : UnitValue) → IsUnit unit → (k : ℕ) → k < length unit.sections + (3 + length (relocated_in unit)) → header_of (object_of unit) (suc k) ≡ header (head_at (file_sections unit) k)
-any_header unit is k lt =
+pub any_header : (unit : UnitValue) → IsUnit unit → (k : ℕ) (s : FileSection) → k < length unit.sections + (3 + length (relocated_in unit)) → get_or (file_sections unit) k no_section ≡ s
+    → header_of (object_of unit) (suc k) ≡ header (record s.head { offset = content_at (file_sections unit) k })
+any_header unit is k s lt at =
     let n = length_sections unit in
-    next_header (file_sections unit) (shstrtab_index unit) (object_of unit) k (unit_laid unit is) (omega (arith, n)) (small_heads unit is k lt)
+    next_header (file_sections unit) (shstrtab_index unit) (object_of unit) k (unit_laid unit is) (omega (arith, n)) (small_heads unit is k lt) ∙ ap header (head_is (file_sections unit) k s at)
 
-pub part_read : (unit : UnitValue) → IsUnit unit → (k : ℕ) → k < length unit.sections
-    → header_of (object_of unit) (suc k) ≡ header (record (part_head (get_or unit.sections k no_part) (name_at (object_section_names unit) k)) { offset = content_at (file_sections unit) k })
-part_read unit is k lt = any_header unit is k (omega arith) ∙ ap header (part_of_file unit k lt)
+pub part_read : (unit : UnitValue) → IsUnit unit → (k : ℕ) → k < length unit.sections → header_of (object_of unit) (suc k) ≡ part_head_read unit k
+unfolding part_section
+part_read unit is k lt = any_header unit is k (part_of unit k) (omega arith) (part_at unit k lt)
 
-pub symtab_read : (unit : UnitValue) → IsUnit unit → header_of (object_of unit) (suc (length unit.sections + 0))
-    ≡ header (record (symbols_head (name_at (object_section_names unit) (length unit.sections)) (length (symbol_table_bytes unit.symbols)) unit) { offset = content_at (file_sections unit) (length unit.sections + 0) })
-symtab_read unit is = any_header unit is (length unit.sections + 0) (omega arith) ∙ ap header (symtab_of_file unit)
+pub symtab_read : (unit : UnitValue) → IsUnit unit → header_of (object_of unit) (suc (length unit.sections + 0)) ≡ symbols_read unit
+unfolding symtab_section
+symtab_read unit is = any_header unit is (length unit.sections + 0) (symtab_section unit) (omega arith) (symtab_at unit)
 
-pub strtab_read : (unit : UnitValue) → IsUnit unit → header_of (object_of unit) (suc (length unit.sections + 1))
-    ≡ header (record (strings_head (name_at (object_section_names unit) (length unit.sections + 1)) (length (string_table (symbol_names unit.symbols)))) { offset = content_at (file_sections unit) (length unit.sections + 1) })
-strtab_read unit is = any_header unit is (length unit.sections + 1) (omega arith) ∙ ap header (strtab_of_file unit)
+pub strtab_read : (unit : UnitValue) → IsUnit unit → header_of (object_of unit) (suc (length unit.sections + 1)) ≡ strings_read unit
+unfolding strtab_section
+strtab_read unit is = any_header unit is (length unit.sections + 1) (strtab_section unit) (omega arith) (strtab_at unit)
 
-pub shstrtab_read : (unit : UnitValue) → IsUnit unit → header_of (object_of unit) (suc (length unit.sections + 2))
-    ≡ header (record (strings_head (name_at (object_section_names unit) (length unit.sections + 2)) (length (string_table (object_section_names unit)))) { offset = content_at (file_sections unit) (length unit.sections + 2) })
-shstrtab_read unit is = any_header unit is (length unit.sections + 2) (omega arith) ∙ ap header (shstrtab_of_file unit)
+pub shstrtab_read : (unit : UnitValue) → IsUnit unit → header_of (object_of unit) (suc (length unit.sections + 2)) ≡ names_read unit
+unfolding shstrtab_section
+shstrtab_read unit is = any_header unit is (length unit.sections + 2) (shstrtab_section unit) (omega arith) (shstrtab_at unit)
 
-pub relocations_read : (unit : UnitValue) → IsUnit unit → (j : ℕ) → j < length (relocated_in unit) → header_of (object_of unit) (suc (length unit.sections + (3 + j)))
-    ≡ header (record (relocations_head (name_at (object_section_names unit) (length unit.sections + 3 + j)) (length (relocation_table unit.relocations (target_of unit j))) (symtab_index unit) (target_of unit j)) { offset = content_at (file_sections unit) (length unit.sections + (3 + j)) })
-relocations_read unit is j lt = any_header unit is (length unit.sections + (3 + j)) (omega arith) ∙ ap header (relocations_of_file unit j lt)
+pub relocations_read : (unit : UnitValue) → IsUnit unit → (j : ℕ) → j < length (relocated_in unit) → header_of (object_of unit) (suc (length unit.sections + (3 + j))) ≡ relocations_head_read unit j
+unfolding relocation_section
+relocations_read unit is j lt = any_header unit is (length unit.sections + (3 + j)) (table_of unit j) (omega arith) (relocations_at unit j lt)
+
+-- ---- the content of each kind of section
+
+pub section_stands : (unit : UnitValue) → IsUnit unit → (k : ℕ) (s : FileSection) → k < length unit.sections + (3 + length (relocated_in unit)) → get_or (file_sections unit) k no_section ≡ s
+    → Stands (object_of unit) (content_at (file_sections unit) k) s.content
+section_stands unit is k s lt at =
+    let n = length_sections unit in
+    subst (λ (t : FileSection). Stands (object_of unit) (content_at (file_sections unit) k) t.content) at
+    (content_stands (file_sections unit) (shstrtab_index unit) (object_of unit) k (unit_laid unit is) (omega (arith, n)))
+
+pub part_stands : (unit : UnitValue) → IsUnit unit → (k : ℕ) → k < length unit.sections → Stands (object_of unit) (content_at (file_sections unit) k) ((get_or unit.sections k no_part).bytes)
+unfolding part_section
+part_stands unit is k lt = section_stands unit is k (part_of unit k) (omega arith) (part_at unit k lt)
+
+pub symbols_stand : (unit : UnitValue) → IsUnit unit → Stands (object_of unit) (symbols_read unit).offset (symbol_table_bytes unit.symbols)
+unfolding symtab_section
+symbols_stand unit is = section_stands unit is (length unit.sections + 0) (symtab_section unit) (omega arith) (symtab_at unit)
+
+pub strings_stand : (unit : UnitValue) → IsUnit unit → Stands (object_of unit) (strings_read unit).offset (string_table (symbol_names unit.symbols))
+unfolding strtab_section
+strings_stand unit is = section_stands unit is (length unit.sections + 1) (strtab_section unit) (omega arith) (strtab_at unit)
+
+pub names_stand : (unit : UnitValue) → IsUnit unit → Stands (object_of unit) (names_read unit).offset (string_table (object_section_names unit))
+unfolding shstrtab_section
+names_stand unit is = section_stands unit is (length unit.sections + 2) (shstrtab_section unit) (omega arith) (shstrtab_at unit)
+
+pub relocations_stand : (unit : UnitValue) → IsUnit unit → (j : ℕ) → j < length (relocated_in unit) → Stands (object_of unit) (relocations_head_read unit j).offset (relocation_table unit.relocations (target_of unit j))
+unfolding relocation_section
+relocations_stand unit is j lt = section_stands unit is (length unit.sections + (3 + j)) (table_of unit j) (omega arith) (relocations_at unit j lt)
 
 -- the bytes of a section end in the file
-pub ends_within : (unit : UnitValue) → IsUnit unit → (k : ℕ) → k < length unit.sections + (3 + length (relocated_in unit))
-    → content_at (file_sections unit) k + length ((get_or (file_sections unit) k no_section).content) ≤ length (object_of unit)
-ends_within unit is k lt =
-    let n = length_sections unit in
-    stands_within (object_of unit) (content_at (file_sections unit) k) ((get_or (file_sections unit) k no_section).content)
-    (content_stands (file_sections unit) (shstrtab_index unit) (object_of unit) k (unit_laid unit is) (omega (arith, n)))
+pub ends_within : (unit : UnitValue) → IsUnit unit → (k : ℕ) (s : FileSection) → k < length unit.sections + (3 + length (relocated_in unit)) → get_or (file_sections unit) k no_section ≡ s
+    → content_at (file_sections unit) k + length s.content ≤ length (object_of unit)
+ends_within unit is k s lt at = stands_within (object_of unit) (content_at (file_sections unit) k) s.content (section_stands unit is k s lt at)

@@ -261,10 +261,6 @@ pub strings_is : (name at size : ℕ) (content table : List ℕ) (head : Head) �
 strings_is name at size content table head named held sized made =
     made ∙ (ap (λ n. strings_head n size) named ∙ ap (strings_head at) (sized ∙ ap length held))
 
-pub symtab_content : (unit : UnitValue) → (symtab_section unit).content ≡ symbol_table_bytes unit.symbols
-unfolding symtab_section
-symtab_content unit = refl
-
 -- ---- the file
 
 pub whole_file : (s : Sections) (names table count : ℕ) (begun out : List ℕ) → table ≡ file_header_size + s.contents.len → count ≡ s.heads.len + 1

@@ -14,17 +14,14 @@ use Rattle.asm_text.specs.declared.unit.SectionKind.{SectionKind}
 use Rattle.asm_text.specs.declared.unit.SectionKind.TheVariants.{Code, Data, Bss}
 use Rattle.asm_text.specs.Parts.{SectionValue, UnitValue, IsUnit, IsSectionValue, kept_size}
 use Rattle.obj_write.specs.Strings.{terminated, string_table, name_at}
-use Rattle.obj_write.specs.Sections.{FileSection, content_at}
+use Rattle.obj_write.specs.Sections.{content_at}
 use Rattle.obj_write.specs.internal.Object.{no_part}
-use Rattle.obj_write.specs.Object.{section_type, strings_head, part_names, table_names, relocation_names, object_section_names, file_sections, shstrtab_index, object_of}
+use Rattle.obj_write.specs.Object.{section_type, part_names, table_names, relocation_names, object_section_names, file_sections, object_of}
 use Rattle.obj_write.specs.Reader.{IsPartRead}
-use Rattle.obj_write.proofs.ReadLemmas.{Stands, stands_left, stands_right, stands_drop, stands_each, header}
+use Rattle.obj_write.proofs.ReadLemmas.{Stands, stands_left, stands_right, stands_drop, stands_each}
 use Rattle.obj_write.proofs.ObjectLemmas.{length_names}
-use Rattle.obj_write.proofs.TableLemmas.{no_section}
-use Rattle.obj_write.proofs.SizeLemmas.{length_sections, part_at, shstrtab_at}
 use Rattle.obj_write.proofs.NameLemmas.{IsString, name_ends, section_strings}
-use Rattle.obj_write.proofs.UnitLemmas.{part_content, shstrtab_parts}
-use Rattle.obj_write.proofs.HeaderLemmas.{content_stands, unit_laid, part_read, shstrtab_read}
+use Rattle.obj_write.proofs.HeaderLemmas.{names_read, part_read, shstrtab_read, part_stands, names_stand}
 use Rattle.obj_write.proofs.FaultLemmas.{names_at, names_content}
 
 -- ---- bytes by their place
@@ -60,19 +57,8 @@ name_range file strings names most k at held s is lt all =
 
 -- ---- sections
 
-abbrev pub names_read : UnitValue → Header
-names_read unit = header (record (strings_head (name_at (object_section_names unit) (length unit.sections + 2)) (length (string_table (object_section_names unit)))) { offset = content_at (file_sections unit) (length unit.sections + 2) })
-
 names_header : (unit : UnitValue) → IsUnit unit → header_of (object_of unit) (name_table (object_of unit)) ≡ names_read unit
 names_header unit is = ap (header_of (object_of unit)) (names_at unit is) ∙ shstrtab_read unit is
-
-names_stand : (unit : UnitValue) → IsUnit unit → Stands (object_of unit) (names_read unit).offset (string_table (object_section_names unit))
-names_stand unit is =
-    let k : ℕ = length unit.sections + 2 in
-    let n = length_sections unit in
-    let same : (get_or (file_sections unit) k no_section).content ≡ string_table (object_section_names unit) = ap (λ (t : FileSection). t.content) (shstrtab_at unit) ∙ (shstrtab_parts unit).1 in
-    subst (λ (l : List ℕ). Stands (object_of unit) (content_at (file_sections unit) k) l) same
-    (content_stands (file_sections unit) (shstrtab_index unit) (object_of unit) k (unit_laid unit is) (omega (arith, n)))
 
 part_name : (unit : UnitValue) (k : ℕ) → k < length unit.sections → get_or (object_section_names unit) k [] ≡ (get_or unit.sections k no_part).name
 unfolding object_section_names
@@ -80,13 +66,6 @@ part_name unit k lt =
     let n = length-map unit.sections (λ (s : SectionValue). s.name) in
     get_or_append_left (part_names unit.sections) (table_names ++ relocation_names unit) [] k (omega (arith, n))
     ∙ get_or-map (λ (s : SectionValue). s.name) unit.sections k no_part [] lt
-
-part_stands : (unit : UnitValue) → IsUnit unit → (k : ℕ) → k < length unit.sections → Stands (object_of unit) (content_at (file_sections unit) k) ((get_or unit.sections k no_part).bytes)
-part_stands unit is k lt =
-    let n = length_sections unit in
-    let same : (get_or (file_sections unit) k no_section).content ≡ (get_or unit.sections k no_part).bytes = ap (λ (t : FileSection). t.content) (part_at unit k lt) ∙ part_content unit k in
-    subst (λ (l : List ℕ). Stands (object_of unit) (content_at (file_sections unit) k) l) same
-    (content_stands (file_sections unit) (shstrtab_index unit) (object_of unit) k (unit_laid unit is) (omega (arith, n)))
 
 bytes_by : (file : List ℕ) (K : SectionKind) (at size : ℕ) (bytes : List ℕ) → length bytes ≡ kept_size K size → Stands file at bytes
     → let span : Span = cond (eqb (section_type K) 0 || eqb (section_type K) 8) (record { start = 0; end = 0 }) (record { start = at; end = at + size }) in slice_range file span.start span.end ≡ bytes

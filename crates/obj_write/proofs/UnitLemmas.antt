@@ -1,5 +1,5 @@
 -- The headers of a unit's file.
-use Rattle.std.proofs.Common.{◌≡◌, ℕ, ◌+◌, ◌<◌, ◌≤◌, ◌^◌, List, [], ◌++◌, refl, ap, arith, length, take, get_or, length-append}
+use Rattle.std.proofs.Common.{ℕ, ◌<◌, ◌≤◌, ◌^◌, List, [], ◌++◌, ap, arith, length, take, get_or, length-append}
 use Rattle.std.specs.List.{flat_map, All}
 use Rattle.std.proofs.lemmas.List.{length-map, length-take}
 use Rattle.std.proofs.lemmas.List.Concat.{flat_map-append}
@@ -14,44 +14,16 @@ use Rattle.obj_write.specs.Sections.{FileSection, padded_contents}
 use Rattle.obj_write.specs.Symbols.{symbol_names, symbol_table_bytes}
 use Rattle.obj_write.specs.Relocations.{relocation_table}
 use Rattle.obj_write.specs.internal.Object.{no_part}
-use Rattle.obj_write.specs.Object.{part_head, symbols_head, strings_head, relocations_head, symtab_index, relocated_in, object_section_names, part_section, symtab_section, strtab_section, shstrtab_section, table_sections, relocation_section, file_sections}
+use Rattle.obj_write.specs.Object.{relocated_in, object_section_names, part_section, symtab_section, strtab_section, shstrtab_section, table_sections, relocation_section, file_sections}
 use Rattle.obj_write.proofs.PassLemmas.{flat_map_each}
 use Rattle.obj_write.proofs.FileLemmas.{table_place}
 use Rattle.obj_write.proofs.ObjectLemmas.{length_names, relocated_few, part_of, table_of}
 use Rattle.obj_write.proofs.SizeLemmas.{sections_each, padded_few, below_few, table_few, relocations_few, length_symbols}
 use Rattle.obj_write.proofs.NameLemmas.{IsString, symbol_strings, section_strings}
 
--- ---- what each section is
-
-pub part_content : (unit : UnitValue) (k : ℕ) → (part_of unit k).content ≡ (get_or unit.sections k no_part).bytes
-unfolding part_section
-part_content unit k = refl
-
-pub part_header : (unit : UnitValue) (k : ℕ) → (part_of unit k).head ≡ part_head (get_or unit.sections k no_part) (name_at (object_section_names unit) k)
-unfolding part_section
-part_header unit k = refl
-
-pub symtab_parts : (unit : UnitValue) → ((symtab_section unit).head ≡ symbols_head (name_at (object_section_names unit) (length unit.sections)) (length (symbol_table_bytes unit.symbols)) unit) × ((symtab_section unit).content ≡ symbol_table_bytes unit.symbols)
-unfolding symtab_section
-symtab_parts unit = (refl, refl)
-
-pub strtab_parts : (unit : UnitValue) → ((strtab_section unit).head ≡ strings_head (name_at (object_section_names unit) (length unit.sections + 1)) (length (string_table (symbol_names unit.symbols)))) × ((strtab_section unit).content ≡ string_table (symbol_names unit.symbols))
-unfolding strtab_section
-strtab_parts unit = (refl, refl)
-
-pub shstrtab_parts : (unit : UnitValue) → ((shstrtab_section unit).head ≡ strings_head (name_at (object_section_names unit) (length unit.sections + 2)) (length (string_table (object_section_names unit)))) × ((shstrtab_section unit).content ≡ string_table (object_section_names unit))
-unfolding shstrtab_section
-shstrtab_parts unit = (refl, refl)
-
 -- the section of a table of relocations
 abbrev pub target_of : UnitValue → ℕ → ℕ
 target_of unit j = get_or (relocated_in unit) j 0
-
-pub relocation_parts : (unit : UnitValue) (j : ℕ)
-    → ((table_of unit j).head ≡ relocations_head (name_at (object_section_names unit) (length unit.sections + 3 + j)) (length (relocation_table unit.relocations (target_of unit j))) (symtab_index unit) (target_of unit j))
-    × ((table_of unit j).content ≡ relocation_table unit.relocations (target_of unit j))
-unfolding relocation_section
-relocation_parts unit j = (refl, refl)
 
 -- ---- sizes
 
@@ -59,23 +31,21 @@ kept_few : (k : SectionKind) (size : ℕ) → kept_size k size ≤ size
 kept_few Code size = omega arith
 kept_few _ size = omega arith
 
-part_few : (unit : UnitValue) → IsUnit unit → (k : ℕ) → k < length unit.sections → length (padded_bytes (part_of unit k).content) ≤ 65537
+part_few : (unit : UnitValue) → IsUnit unit → (k : ℕ) → k < length unit.sections → length (padded_bytes (get_or unit.sections k no_part).bytes) ≤ 65537
 part_few unit is k lt =
     let h = All-get_or IsSectionValue unit.sections k no_part lt is.sections_kept in
     let a = h.small in
     let b = h.filled in
     let c = kept_few (get_or unit.sections k no_part).kind (get_or unit.sections k no_part).size in
-    let d = padded_few (part_of unit k).content in
-    let e = ap length (part_content unit k) in
-    omega (arith, a, b, c, d, e)
+    let d = padded_few (get_or unit.sections k no_part).bytes in
+    omega (arith, a, b, c, d)
 
-relocation_few : (unit : UnitValue) → IsUnit unit → (j : ℕ) → length (padded_bytes (table_of unit j).content) ≤ 12582915
+relocation_few : (unit : UnitValue) → IsUnit unit → (j : ℕ) → length (padded_bytes (relocation_table unit.relocations (target_of unit j))) ≤ 12582915
 relocation_few unit is j =
     let a = relocations_few unit.relocations (target_of unit j) in
     let b = is.few_relocations in
-    let c = padded_few (table_of unit j).content in
-    let d = ap length (relocation_parts unit j).1 in
-    omega (arith, a, b, c, d)
+    let c = padded_few (relocation_table unit.relocations (target_of unit j)) in
+    omega (arith, a, b, c)
 
 pub symbol_names_few : (unit : UnitValue) → IsUnit unit → length (string_table (symbol_names unit.symbols)) ≤ 68157441
 symbol_names_few unit is =
@@ -109,29 +79,27 @@ name_few unit is k =
     let c = length-take k (object_section_names unit) in
     omega (arith, a, b, c)
 
-few_tables : (unit : UnitValue) → IsUnit unit → length (flat_map (λ (s : FileSection). padded_bytes s.content) (table_sections unit)) ≤ 84970733
+few_tables : (unit : UnitValue) → IsUnit unit
+    → length (padded_bytes (symbol_table_bytes unit.symbols) ++ (padded_bytes (string_table (symbol_names unit.symbols)) ++ (padded_bytes (string_table (object_section_names unit)) ++ []))) ≤ 84970733
 few_tables unit is =
-    let a : List ℕ = padded_bytes (symtab_section unit).content in
-    let b : List ℕ = padded_bytes (strtab_section unit).content in
-    let c : List ℕ = padded_bytes (shstrtab_section unit).content in
+    let a : List ℕ = padded_bytes (symbol_table_bytes unit.symbols) in
+    let b : List ℕ = padded_bytes (string_table (symbol_names unit.symbols)) in
+    let c : List ℕ = padded_bytes (string_table (object_section_names unit)) in
     let e₁ = length-append a (b ++ (c ++ [])) in
     let e₂ = length-append b (c ++ []) in
     let e₃ = length-append c [] in
-    let a' = padded_few (symtab_section unit).content in
-    let b' = padded_few (strtab_section unit).content in
-    let c' = padded_few (shstrtab_section unit).content in
-    let a″ = ap length (symtab_parts unit).1 in
-    let b″ = ap length (strtab_parts unit).1 in
-    let c″ = ap length (shstrtab_parts unit).1 in
+    let a' = padded_few (symbol_table_bytes unit.symbols) in
+    let b' = padded_few (string_table (symbol_names unit.symbols)) in
+    let c' = padded_few (string_table (object_section_names unit)) in
     let x = length_symbols unit.symbols in
     let y = symbol_names_few unit is in
     let z = section_names_few unit is in
     let m = is.few_symbols in
-    omega (arith, e₁, e₂, e₃, a', b', c', a″, b″, c″, x, y, z, m)
+    omega (arith, e₁, e₂, e₃, a', b', c', x, y, z, m)
 
 -- the file has fewer than 2 ^ 32 bytes before its headers
 pub few_contents : (unit : UnitValue) → IsUnit unit → table_place (file_sections unit) < 2 ^ 32
-unfolding padded_contents
+unfolding padded_contents part_section symtab_section strtab_section shstrtab_section relocation_section
 few_contents unit is =
     let f : FileSection → List ℕ = λ s. padded_bytes s.content in
     let parts : List FileSection = each_below (part_of unit) (length unit.sections) in
@@ -147,5 +115,5 @@ few_contents unit is =
     let r' = below_few (λ j. f (table_of unit j)) 12582915 (length (relocated_in unit)) (λ j lt. relocation_few unit is j) in
     let n = is.few_sections in
     let m = relocated_few unit.relocations (length unit.sections) in
-    let t = few_tables unit is in
+    let t : length (flat_map f (table_sections unit)) ≤ 84970733 = few_tables unit is in
     omega (arith, e, e₁, e₂, e₃, e₄, p, p', r, r', n, m, t)
