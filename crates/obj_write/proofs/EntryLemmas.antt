@@ -38,7 +38,7 @@ use Rattle.obj_write.proofs.SymbolLemmas.{no_symbol, entry_at, entries_below}
 use Rattle.obj_write.proofs.SizeLemmas.{length_relocations, length_symbols, length_symbol_at, entries_length}
 use Rattle.obj_write.proofs.NameLemmas.{name_ends, content_read, symbol_strings}
 use Rattle.obj_write.proofs.UnitLemmas.{target_of, symbol_names_few}
-use Rattle.obj_write.proofs.HeaderLemmas.{part_head_read, symbols_read, strings_read, relocations_head_read, symbols_stand, strings_stand, relocations_stand, unit_laid, counted_sections, symtab_read, strtab_read}
+use Rattle.obj_write.proofs.HeaderLemmas.{of_kinds, part_head_read, symbols_read, strings_read, relocations_head_read, symbols_stand, strings_stand, relocations_stand, unit_laid, counted_sections, symtab_read, strtab_read}
 use Rattle.obj_write.proofs.FaultLemmas.{every_header, no_section_faults, no_compressed_faults, no_rel_faults, no_name_faults}
 use Rattle.obj_write.proofs.LinkLemmas.{first_table, no_link_faults, both_none, other_index}
 
@@ -62,16 +62,13 @@ strings_content unit is =
 
 -- ---- an entry of it
 
-entry_stands_by : (file : List ℕ) (at : ℕ) (symbols : List SymbolValue) (k : ℕ) → k < length symbols → Stands file at (own.symbol_table_bytes symbols) → Stands file (at + 16 * suc k) (entry_at symbols k)
-entry_stands_by file at symbols k lt s =
+entry_stands : (file : List ℕ) (at : ℕ) (symbols : List SymbolValue) (k : ℕ) → k < length symbols → Stands file at (own.symbol_table_bytes symbols) → Stands file (at + 16 * suc k) (entry_at symbols k)
+entry_stands file at symbols k lt s =
     let f : ℕ → List ℕ = entry_at symbols in
     let r = stands_right file at (at + 16) (replicate symbol_size 0) (all_below f (length symbols)) refl (subst (Stands file at) (entries_below symbols) s) in
     let n = length_below f 16 k (λ j _. length_symbol_at symbols j) in
     let e : at + 16 + length (all_below f k) ≡ at + 16 * suc k = omega (arith, n) in
     subst (λ (m : ℕ). Stands file m (entry_at symbols k)) e (stands_below file (at + 16) f (length symbols) k lt r)
-
-pub entry_stands : (unit : UnitValue) → IsUnit unit → (k : ℕ) → k < length unit.symbols → Stands (object_of unit) ((symbols_read unit).offset + 16 * suc k) (entry_at unit.symbols k)
-entry_stands unit is k lt = entry_stands_by (object_of unit) (symbols_read unit).offset unit.symbols k lt (symbols_stand unit is)
 
 -- the fields of an entry that are looked at
 pub record IsEntry (name : ℕ) (s : SymbolValue) (e : Entry) : Type 0 where
@@ -125,7 +122,8 @@ entry_given unit is k lt =
     let few = is.few_sections in
     let name = symbol_name_few unit k in
     let strings = symbol_names_few unit is in
-    entry_read (object_of unit) (symbols_read unit) (suc k) (name_at (symbol_names unit.symbols) k) s (omega (arith, name, strings)) (omega (arith, home, few)) (entry_stands unit is k lt)
+    entry_read (object_of unit) (symbols_read unit) (suc k) (name_at (symbol_names unit.symbols) k) s (omega (arith, name, strings)) (omega (arith, home, few))
+    (entry_stands (object_of unit) (symbols_read unit).offset unit.symbols k lt (symbols_stand unit is))
 
 symbol_by : (unit : UnitValue) → IsUnit unit → (k : ℕ) → k < length unit.symbols → symbol_fault (object_of unit) (symbols_read unit) (suc k) ≡ None
 unfolding symbol_fault name_end
@@ -204,10 +202,6 @@ kept_by file symbols i h each = by (is_kept_table file h) (nothing_below (entry_
   by true none = none
   by false none = refl
 
-part_kind : (K : SectionKind) → eqb (section_type K) 4 ≡ false
-part_kind Code = refl
-part_kind _ = refl
-
 pub count_is : (unit : UnitValue) → IsUnit unit → count_of (symbols_header (object_of unit)) ≡ suc (length unit.symbols)
 count_is unit is = ap count_of (symbols_header_is unit is) ∙ symbol_count unit
 
@@ -218,7 +212,8 @@ no_relocation_faults unit is =
     let symbols : ℕ = count_of (symbols_header file) in
     nothing_below (relocation_fault file symbols) (section_count file)
     (every_header (λ i h. cond (is_kept_table file h) (first_below (entry_fault file symbols i h) (h.size / 12)) None ≡ None) unit is refl
-    (λ k lt. ap (λ b. cond (b && is_loaded_header (header_of file 0)) (first_below (entry_fault file symbols (suc k) (part_head_read unit k)) ((part_head_read unit k).size / 12)) None) (part_kind (get_or unit.sections k no_part).kind)) refl refl refl
+    (λ k lt.
+    of_kinds (λ kind flags. cond (eqb kind 4 && is_loaded_header (header_of file 0)) (first_below (entry_fault file symbols (suc k) (part_head_read unit k)) ((part_head_read unit k).size / 12)) None ≡ None) refl refl refl (get_or unit.sections k no_part).kind) refl refl refl
     (λ j lt. let i : ℕ = suc (length unit.sections + (3 + j)) in kept_by file symbols i (relocations_head_read unit j) (relocation_entry_by unit is j i symbols lt (count_is unit is))))
 
 -- ---- none at all

@@ -22,7 +22,7 @@ use Rattle.obj_write.proofs.ObjectLemmas.{length_names, part_of, table_of}
 use Rattle.obj_write.proofs.TableLemmas.{no_section}
 use Rattle.obj_write.proofs.SizeLemmas.{part_at, symtab_at, strtab_at, shstrtab_at, relocations_at, at_all}
 use Rattle.obj_write.proofs.NameLemmas.{name_ends, no_name_ends, content_read, section_strings}
-use Rattle.obj_write.proofs.HeaderLemmas.{any_header, part_head_read, symbols_read, strings_read, names_read, relocations_head_read, names_stand, unit_laid, counted_sections, zero_header, part_read, symtab_read, strtab_read, shstrtab_read, relocations_read, ends_within}
+use Rattle.obj_write.proofs.HeaderLemmas.{of_kinds, any_header, part_head_read, symbols_read, strings_read, names_read, relocations_head_read, names_stand, unit_laid, counted_sections, zero_header, part_read, symtab_read, strtab_read, shstrtab_read, relocations_read, ends_within}
 
 -- what holds of section 0 and of each kind of section holds at each index
 pub every_index : (P : ℕ → Type 0) (unit : UnitValue) → IsUnit unit → P 0 → ((k : ℕ) → k < length unit.sections → P (suc k)) → P (suc (length unit.sections + 0)) → P (suc (length unit.sections + 1)) → P (suc (length unit.sections + 2))
@@ -89,20 +89,12 @@ no_section_faults unit is =
 
 -- ---- flags
 
-part_flags : (K : SectionKind) → (is_loaded (section_type K) (section_flags K) && eqb (section_flags K / 2048 % 2) 1) ≡ false
-part_flags Code = refl
-part_flags _ = refl
-
 pub no_compressed_faults : (unit : UnitValue) → IsUnit unit → compressed_faults (object_of unit) ≡ None
 unfolding compressed_faults compressed_fault
 no_compressed_faults unit is =
     nothing_below (compressed_fault (object_of unit)) (section_count (object_of unit))
     (every_header (λ i h. then_some (is_loaded_header h && eqb (h.flags / 2048 % 2) 1) (fault.Compressed i) ≡ None) unit is refl
-    (λ k lt. ap (λ b. then_some b (fault.Compressed (suc k))) (part_flags (get_or unit.sections k no_part).kind)) refl refl refl (λ j lt. refl))
-
-part_kind : (K : SectionKind) → eqb (section_type K) 9 ≡ false
-part_kind Code = refl
-part_kind _ = refl
+    (λ k lt. of_kinds (λ kind flags. then_some (is_loaded kind flags && eqb (flags / 2048 % 2) 1) (fault.Compressed (suc k)) ≡ None) refl refl refl (get_or unit.sections k no_part).kind) refl refl refl (λ j lt. refl))
 
 pub no_rel_faults : (unit : UnitValue) → IsUnit unit → rel_faults (object_of unit) ≡ None
 unfolding rel_faults rel_fault
@@ -110,7 +102,7 @@ no_rel_faults unit is =
     let file : List ℕ = object_of unit in
     nothing_below (rel_fault file) (section_count file)
     (every_header (λ i h. then_some (eqb h.kind 9 && is_loaded_header (header_of file h.info)) (fault.RelSection i) ≡ None) unit is refl
-    (λ k lt. ap (λ b. then_some (b && is_loaded_header (header_of file 0)) (fault.RelSection (suc k))) (part_kind (get_or unit.sections k no_part).kind)) refl refl refl (λ j lt. refl))
+    (λ k lt. of_kinds (λ kind flags. then_some (eqb kind 9 && is_loaded_header (header_of file 0)) (fault.RelSection (suc k)) ≡ None) refl refl refl (get_or unit.sections k no_part).kind) refl refl refl (λ j lt. refl))
 
 -- ---- names
 

@@ -21,15 +21,6 @@ unfolding first_below
 nothing_below f zero each = refl
 nothing_below f (suc n) each = rw (nothing_below f n (λ k lt. each k (omega arith))) (each n (omega arith))
 
-header_fault_none : (file : List ℕ) → ltb (length file) 52 ≡ false → long_at file 0 ≡ 0x464c457f → slice_index file 4 ≡ 1 → slice_index file 5 ≡ 1 → slice_index file 6 ≡ 1
-    → long_at file 20 ≡ 1 → half_at file 18 ≡ 105 → half_at file 16 ≡ 1 → header_fault file ≡ None
-unfolding header_fault
-header_fault_none file short magic class order version version_too machine kind = rw (short, magic, class, order, version, version_too, machine, kind) refl
-
-table_fault_none : (file : List ℕ) → half_at file 46 ≡ 40 → ltb (length file) (table_offset file + 40 * section_count file) ≡ false → table_fault file ≡ None
-unfolding table_fault
-table_fault_none file size short = rw (size, short) refl
-
 -- ---- the file
 
 -- where the table of headers stands
@@ -49,16 +40,13 @@ pub record IsLaid (sections : List FileSection) (names : ℕ) (file : List ℕ) 
 pub stands_whole : (file bytes : List ℕ) → file ≡ bytes → Stands file 0 bytes
 stands_whole file bytes e = record { front = []; rest = []; whole = e ∙ sym (append-nil bytes); begun = refl }
 
-length_head_bytes : (h : Head) → length (head_bytes h) ≡ 40
-unfolding head_bytes
-length_head_bytes h = refl
-
 pub length_headers : (sections : List FileSection) → length (header_table sections) ≡ 40 + 40 * length sections
+unfolding head_bytes
 length_headers sections =
     let f : ℕ → List ℕ = λ k. head_bytes (head_at sections k) in
     let e = ap length (table_below sections) in
     let a = length-append (replicate section_header_size 0) (all_below f (length sections)) in
-    let b = length_below f 40 (length sections) (λ k lt. length_head_bytes (head_at sections k)) in
+    let b = length_below f 40 (length sections) (λ k lt. refl) in
     omega (arith, e, a, b)
 
 -- the fields of the header that are read
@@ -93,31 +81,28 @@ headed file table count names small few low s =
       strings_at = half_read file 50 names low (part 50 2 refl);
     }
 
-length_first : (table count names : ℕ) → length (file_header table count names) ≡ 52
-unfolding file_header
-length_first table count names = refl
-
 pub laid : (sections : List FileSection) (names : ℕ) → table_place sections < 2 ^ 32 → length sections + 1 < 2 ^ 16 → names < 2 ^ 16 → IsLaid sections names (file_bytes sections names)
-unfolding file_bytes
+unfolding file_bytes file_header header_fault table_fault
 laid sections names small few low =
     let file : List ℕ = file_bytes sections names in
     let first : List ℕ = file_header (table_place sections) (length sections + 1) names in
     let s = stands_whole file (first ++ (padded_contents sections ++ header_table sections)) refl in
     let h = headed file (table_place sections) (length sections + 1) names small few low (stands_left file 0 first (padded_contents sections ++ header_table sections) s) in
-    let fifty_two : length first ≡ 52 = length_first (table_place sections) (length sections + 1) names in
-    let r = stands_right file 0 52 first (padded_contents sections ++ header_table sections) (omega (arith, fifty_two)) s in
+    let r = stands_right file 0 52 first (padded_contents sections ++ header_table sections) refl s in
     let t = stands_right file 52 (table_place sections) (padded_contents sections) (header_table sections) refl r in
     let within = stands_within file (table_place sections) (header_table sections) t in
     let n = length_headers sections in
     let ends : table_offset file + 40 * section_count file ≤ length file = let a = h.table_at in let b = ap (λ k. 40 * k) h.counted in omega (arith, within, n, a, b) in
+    let short : ltb (length file) 52 ≡ false = let l = within in grind (arith, nat_tests) in
+    let whole : ltb (length file) (table_offset file + 40 * section_count file) ≡ false = grind (arith, nat_tests) in
     record {
       contents = stands_left file 52 (padded_contents sections) (header_table sections) r;
       headers = subst (Stands file (table_place sections)) (table_below sections) t;
       table = h.table_at;
       count = h.counted;
       strings = h.strings_at;
-      header_none = header_fault_none file (let l = within in grind (arith, nat_tests)) h.magic h.class h.order h.version h.version_too h.machine h.kind;
-      table_none = table_fault_none file h.entry (grind (arith, nat_tests));
+      header_none = rw (short, h.magic, h.class, h.order, h.version, h.version_too, h.machine, h.kind) refl;
+      table_none = rw (h.entry, whole) refl;
     }
 
 -- ---- headers
@@ -138,10 +123,11 @@ first_header sections names file laid =
 -- the sections after it
 pub next_header : (sections : List FileSection) (names : ℕ) (file : List ℕ) (k : ℕ) → IsLaid sections names file → k < length sections → IsSmall (head_at sections k)
     → header_of file (suc k) ≡ header (head_at sections k)
+unfolding head_bytes
 next_header sections names file k laid lt small =
     let f : ℕ → List ℕ = λ j. head_bytes (head_at sections j) in
     let r = stands_right file (table_place sections) (table_place sections + 40) (replicate section_header_size 0) (all_below f (length sections)) refl laid.headers in
-    let n = length_below f 40 k (λ j l. length_head_bytes (head_at sections j)) in
+    let n = length_below f 40 k (λ j l. refl) in
     let e = laid.table in
     let at : table_place sections + 40 + length (all_below f k) ≡ table_offset file + 40 * suc k = omega (arith, n, e) in
     header_read file (suc k) (head_at sections k) small

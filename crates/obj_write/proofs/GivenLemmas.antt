@@ -38,7 +38,7 @@ use Rattle.obj_write.proofs.RelocationLemmas.{no_relocation}
 use Rattle.obj_write.proofs.SizeLemmas.{length_relocations, at_all}
 use Rattle.obj_write.proofs.NameLemmas.{symbol_strings}
 use Rattle.obj_write.proofs.UnitLemmas.{target_of}
-use Rattle.obj_write.proofs.HeaderLemmas.{symbols_read, relocations_head_read, strings_stand, relocations_stand, counted_sections, zero_header, part_read, symtab_read, strtab_read, shstrtab_read, relocations_read, target_within}
+use Rattle.obj_write.proofs.HeaderLemmas.{of_kinds, symbols_read, relocations_head_read, strings_stand, relocations_stand, counted_sections, zero_header, part_read, symtab_read, strtab_read, shstrtab_read, relocations_read, target_within}
 use Rattle.obj_write.proofs.EntryLemmas.{symbols_header_is, symbol_count, strings_header, strings_content, entry_given, home_few, relocation_stands, info_read}
 use Rattle.obj_write.proofs.ReaderLemmas.{name_range, part_given}
 
@@ -56,9 +56,6 @@ homes (Some k) few =
     let c : eqb (k + 1) 0xFFF2 ≡ false = grind (arith, nat_tests) in
     rw (a, b, c) refl
 
-symbol_name : (unit : UnitValue) (k : ℕ) → k < length unit.symbols → get_or (symbol_names unit.symbols) k [] ≡ (get_or unit.symbols k no_symbol).name
-symbol_name unit k lt = get_or-map (λ (s : SymbolValue). s.name) unit.symbols k no_symbol [] lt
-
 symbol_given : (unit : UnitValue) → IsUnit unit → (k : ℕ) → k < length unit.symbols → IsSymbolOf (object_of unit) (get_or unit.symbols k no_symbol) (symbol_of (object_of unit) (symbols_read unit) (suc k))
 unfolding symbol_of
 symbol_given unit is k lt =
@@ -73,7 +70,7 @@ symbol_given unit is k lt =
     let stands : Stands file ((strings_of file table).offset) (string_table (symbol_names unit.symbols))
     = subst (λ (x : Header). Stands file x.offset (string_table (symbol_names unit.symbols))) (sym (strings_header unit is)) (strings_stand unit is) in
     record {
-      name = name_range file (strings_of file table) (symbol_names unit.symbols) 64 k ((table_entry file table (suc k)).name) (strings_content unit is) stands e.name_is (omega (arith, counted)) (symbol_strings unit is) ∙ symbol_name unit k lt;
+      name = name_range file (strings_of file table) (symbol_names unit.symbols) 64 k ((table_entry file table (suc k)).name) (strings_content unit is) stands e.name_is (omega (arith, counted)) (symbol_strings unit is) ∙ get_or-map (λ (t : SymbolValue). t.name) unit.symbols k no_symbol [] lt;
       value = e.value;
       size = e.size;
       binding = ap binding_of e.binding ∙ bindings s.global;
@@ -120,22 +117,10 @@ relocation_given unit is j lt e inside =
     relocation_same _ _ _ _ _ _ (length unit.sections + 4 + j) e (target + 1) (r.offset % 2 ^ 32) (r.symbol + 1) 5 _ (pos 0)
     (omega arith) refl refl (offset_read file at r stands) (omega (arith, info)) (omega (arith, info)) (ap (cast_signed w32) (addend_read file at r stands))
 
-part_loaded : (K : SectionKind) → is_loaded (section_type K) (section_flags K) ≡ true
-part_loaded Code = refl
-part_loaded _ = refl
-
 target_loaded : (unit : UnitValue) → IsUnit unit → (j : ℕ) → j < length (relocated_in unit) → is_loaded_header (header_of (object_of unit) (target_of unit j + 1)) ≡ true
 target_loaded unit is j lt =
     ap (λ i. is_loaded_header (header_of (object_of unit) i)) (add-one (target_of unit j))
-    ∙ (ap is_loaded_header (part_read unit is (target_of unit j) (target_within unit j lt)) ∙ part_loaded (get_or unit.sections (target_of unit j) no_part).kind)
-
-chosen : {A : Type 0} (b : Bool) (x y : A) → b ≡ true → cond b x y ≡ x
-chosen true x y e = refl
-chosen false x y e = cc
-
-not_chosen : {A : Type 0} (b : Bool) (x y : A) → b ≡ false → cond b x y ≡ y
-not_chosen false x y e = refl
-not_chosen true x y e = cc
+    ∙ (ap is_loaded_header (part_read unit is (target_of unit j) (target_within unit j lt)) ∙ of_kinds (λ kind flags. is_loaded kind flags ≡ true) refl refl refl (get_or unit.sections (target_of unit j) no_part).kind)
 
 table_given : (unit : UnitValue) → IsUnit unit → (j : ℕ) → j < length (relocated_in unit) → relocations_at (object_of unit) (suc (length unit.sections + (3 + j))) ≡ table_read unit j (target_of unit j)
 unfolding relocations_at
@@ -149,7 +134,7 @@ table_given unit is j lt =
     let n = length_relocations unit.relocations target in
     let count : h.size / 12 ≡ length list = omega (arith, n) in
     ap (λ (x : Header). cond (is_kept_table file x) (each_below (relocation_of file i x) (x.size / 12)) []) (relocations_read unit is j lt)
-    ∙ (chosen (is_kept_table file h) (each_below (relocation_of file i h) (h.size / 12)) [] (target_loaded unit is j lt)
+    ∙ (ap (λ b. cond b (each_below (relocation_of file i h) (h.size / 12)) []) (target_loaded unit is j lt)
     ∙ (ap (each_below (relocation_of file i h)) count
     ∙ (each_below_same (relocation_of file i h) (λ e. read e (get_or list e no_relocation)) (length list) (relocation_given unit is j lt)
     ∙ sym (each_numbered read list no_relocation))))
@@ -158,17 +143,13 @@ none_at : (file : List ℕ) (i : ℕ) (h : Header) → header_of file i ≡ h �
 unfolding relocations_at
 none_at file i h e other =
     ap (λ (x : Header). cond (is_kept_table file x) (each_below (relocation_of file i x) (x.size / 12)) []) e
-    ∙ not_chosen (is_kept_table file h) (each_below (relocation_of file i h) (h.size / 12)) [] other
-
-part_not_kept : (K : SectionKind) (x : Bool) → (eqb (section_type K) 4 && x) ≡ false
-part_not_kept Code x = refl
-part_not_kept _ x = refl
+    ∙ ap (λ b. cond b (each_below (relocation_of file i h) (h.size / 12)) []) other
 
 none_before : (unit : UnitValue) → IsUnit unit → (i : ℕ) → i < length unit.sections + 4 → relocations_at (object_of unit) i ≡ []
 none_before unit is zero lt = none_at (object_of unit) 0 (header no_head) (zero_header unit is) refl
 none_before unit is (suc k) lt =
     at_all (λ i. i < length unit.sections + 3 → relocations_at (object_of unit) (suc i) ≡ []) unit
-    (λ i l _. none_at (object_of unit) (suc i) _ (part_read unit is i l) (part_not_kept (get_or unit.sections i no_part).kind _))
+    (λ i l _. none_at (object_of unit) (suc i) _ (part_read unit is i l) (of_kinds (λ kind flags. (eqb kind 4 && is_loaded_header (header_of (object_of unit) 0)) ≡ false) refl refl refl (get_or unit.sections i no_part).kind))
     (λ _. none_at (object_of unit) (suc (length unit.sections + 0)) _ (symtab_read unit is) refl)
     (λ _. none_at (object_of unit) (suc (length unit.sections + 1)) _ (strtab_read unit is) refl)
     (λ _. none_at (object_of unit) (suc (length unit.sections + 2)) _ (shstrtab_read unit is) refl)

@@ -7,7 +7,7 @@ use Rattle.elf_objects.specs.declared.section.Header.{Header}
 use Rattle.elf_objects.specs.Header.{section_count}
 use Rattle.elf_objects.specs.Section.{header_of}
 use Rattle.asm_text.specs.declared.unit.SectionKind.{SectionKind}
-use Rattle.asm_text.specs.declared.unit.SectionKind.TheVariants.{Code}
+use Rattle.asm_text.specs.declared.unit.SectionKind.TheVariants.{Code, Data, Bss}
 use Rattle.asm_text.specs.Parts.{SymbolValue, UnitValue, IsUnit, IsSectionValue}
 use Rattle.obj_write.specs.declared.sections.Head.{Head}
 use Rattle.obj_write.specs.Bytes.{gap, padded_bytes}
@@ -48,13 +48,11 @@ content_below sections k lt =
 
 -- ---- fields
 
-kind_small : (k : SectionKind) → section_type k < 9
-kind_small Code = omega arith
-kind_small _ = omega arith
-
-flags_small : (k : SectionKind) → section_flags k < 7
-flags_small Code = omega arith
-flags_small _ = omega arith
+-- what holds of the type and the flags of each kind of section
+pub of_kinds : (P : ℕ → ℕ → Type 0) → P 1 6 → P 1 3 → P 8 3 → (k : SectionKind) → P (section_type k) (section_flags k)
+of_kinds P a b c Code = a
+of_kinds P a b c Data = b
+of_kinds P a b c Bss = c
 
 global_few : (symbols : List SymbolValue) → first_global symbols ≤ 1 + length symbols
 unfolding first_global
@@ -92,8 +90,8 @@ unfolding part_section
 small_part unit is k lt =
     let n = length_sections unit in
     let name = name_few unit is k in
-    let kind = kind_small (get_or unit.sections k no_part).kind in
-    let flags = flags_small (get_or unit.sections k no_part).kind in
+    let kind = of_kinds (λ kind flags. kind < 9) (omega arith) (omega arith) (omega arith) (get_or unit.sections k no_part).kind in
+    let flags = of_kinds (λ kind flags. flags < 7) (omega arith) (omega arith) (omega arith) (get_or unit.sections k no_part).kind in
     let at = offset_few unit is k (omega (arith, n)) in
     let h = All-get_or IsSectionValue unit.sections k no_part lt is.sections_kept in
     let size = h.small in

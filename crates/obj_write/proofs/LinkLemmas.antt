@@ -22,8 +22,8 @@ use Rattle.obj_write.proofs.ReadLemmas.{header}
 use Rattle.obj_write.proofs.FileLemmas.{nothing_below, no_head}
 use Rattle.obj_write.proofs.SizeLemmas.{length_relocations, length_symbols}
 use Rattle.obj_write.proofs.UnitLemmas.{target_of}
-use Rattle.obj_write.proofs.HeaderLemmas.{counted_sections, zero_header, part_read, symtab_read, strtab_read, shstrtab_read, relocations_read, target_within}
-use Rattle.obj_write.proofs.FaultLemmas.{every_index, names_at}
+use Rattle.obj_write.proofs.HeaderLemmas.{of_kinds, part_head_read, symbols_read, strings_read, names_read, relocations_head_read, counted_sections, zero_header, part_read, symtab_read, strtab_read, shstrtab_read, relocations_read, target_within}
+use Rattle.obj_write.proofs.FaultLemmas.{every_header, names_at}
 
 -- ---- tests
 
@@ -44,16 +44,11 @@ three_nots a b c p q r = rw (p, q, r) refl
 
 -- ---- the table of symbols
 
-no_table : (file : List ℕ) (i : ℕ) (h : Header) → header_of file i ≡ h → eqb h.kind 2 ≡ false → index_if (eqb ((header_of file i).kind) 2) i ≡ None
-no_table file i h e other = ap (λ (x : Header). index_if (eqb x.kind 2) i) e ∙ ap (λ b. index_if b i) other
-
-part_no_table : (K : SectionKind) → eqb (section_type K) 2 ≡ false
-part_no_table Code = refl
-part_no_table _ = refl
-
 tables_before : (unit : UnitValue) → IsUnit unit → (i : ℕ) → i < suc (length unit.sections + 0) → index_if (eqb ((header_of (object_of unit) i).kind) 2) i ≡ None
-tables_before unit is zero lt = no_table (object_of unit) 0 (header no_head) (zero_header unit is) refl
-tables_before unit is (suc k) lt = no_table (object_of unit) (suc k) _ (part_read unit is k (omega arith)) (part_no_table (get_or unit.sections k no_part).kind)
+tables_before unit is zero lt = ap (λ (h : Header). index_if (eqb h.kind 2) 0) (zero_header unit is)
+tables_before unit is (suc k) lt =
+    ap (λ (h : Header). index_if (eqb h.kind 2) (suc k)) (part_read unit is k (omega arith))
+    ∙ of_kinds (λ kind flags. index_if (eqb kind 2) (suc k) ≡ None) refl refl refl (get_or unit.sections k no_part).kind
 
 -- it is the first one
 pub first_table : (unit : UnitValue) → IsUnit unit → symbol_table (object_of unit) ≡ Some (suc (length unit.sections + 0))
@@ -68,30 +63,24 @@ first_table unit is =
 
 -- ---- links
 
-link_by : (file : List ℕ) (i : ℕ) (h : Header) → header_of file i ≡ h → (eqb i (name_table file) && not (eqb h.kind 3)) ≡ false → (eqb h.kind 2 && is_bad_symbol_table file i h) ≡ false
-    → ((eqb h.kind 4 || eqb h.kind 9) && not (ltb h.info (section_count file))) ≡ false → (is_kept_table file h && is_bad_kept_table file h) ≡ false → link_fault file i ≡ None
-unfolding link_fault
-link_by file i h e a b c d =
-    ap (λ (x : Header). then_some (is_bad_link file i x) (fault.Link i)) e
-    ∙ four_false (eqb i (name_table file) && not (eqb h.kind 3)) (eqb h.kind 2 && is_bad_symbol_table file i h) ((eqb h.kind 4 || eqb h.kind 9) && not (ltb h.info (section_count file))) (is_kept_table file h && is_bad_kept_table file h) (fault.Link i) a b c d
+link_by : (file : List ℕ) (i : ℕ) (h : Header) → (eqb i (name_table file) && not (eqb h.kind 3)) ≡ false → (eqb h.kind 2 && is_bad_symbol_table file i h) ≡ false
+    → ((eqb h.kind 4 || eqb h.kind 9) && not (ltb h.info (section_count file))) ≡ false → (is_kept_table file h && is_bad_kept_table file h) ≡ false → then_some (is_bad_link file i h) (fault.Link i) ≡ None
+link_by file i h a b c d =
+    four_false (eqb i (name_table file) && not (eqb h.kind 3)) (eqb h.kind 2 && is_bad_symbol_table file i h) ((eqb h.kind 4 || eqb h.kind 9) && not (ltb h.info (section_count file))) (is_kept_table file h && is_bad_kept_table file h) (fault.Link i) a b c d
 
 other_than_names : (unit : UnitValue) → IsUnit unit → (i : ℕ) (x : Bool) → eqb i (suc (length unit.sections + 2)) ≡ false → (eqb i (name_table (object_of unit)) && x) ≡ false
 other_than_names unit is i x other = and_left (eqb i (name_table (object_of unit))) x (ap (eqb i) (names_at unit is) ∙ other)
 
-part_no_relocations : (K : SectionKind) (y : Bool) → ((eqb (section_type K) 4 || eqb (section_type K) 9) && y) ≡ false
-part_no_relocations Code y = refl
-part_no_relocations _ y = refl
-
-part_not_kept : (K : SectionKind) (x y : Bool) → (eqb (section_type K) 4 && x && y) ≡ false
-part_not_kept Code x y = refl
-part_not_kept _ x y = refl
-
-part_link : (unit : UnitValue) → IsUnit unit → (k : ℕ) → k < length unit.sections → link_fault (object_of unit) (suc k) ≡ None
+part_link : (unit : UnitValue) → IsUnit unit → (k : ℕ) → k < length unit.sections → then_some (is_bad_link (object_of unit) (suc k) (part_head_read unit k)) (fault.Link (suc k)) ≡ None
 part_link unit is k lt =
+    let file : List ℕ = object_of unit in
+    let h : Header = part_head_read unit k in
     let K : SectionKind = (get_or unit.sections k no_part).kind in
-    link_by (object_of unit) (suc k) _ (part_read unit is k lt)
+    link_by file (suc k) h
     (other_than_names unit is (suc k) (not (eqb (section_type K) 3)) (other_index (suc k) (suc (length unit.sections + 2)) (omega arith)))
-    (and_left (eqb (section_type K) 2) _ (part_no_table K)) (part_no_relocations K _) (part_not_kept K _ _)
+    (of_kinds (λ kind flags. (eqb kind 2 && is_bad_symbol_table file (suc k) h) ≡ false) refl refl refl K)
+    (of_kinds (λ kind flags. ((eqb kind 4 || eqb kind 9) && not (ltb 0 (section_count file))) ≡ false) refl refl refl K)
+    (of_kinds (λ kind flags. (eqb kind 4 && is_loaded_header (header_of file 0) && is_bad_kept_table file h) ≡ false) refl refl refl K)
 
 strings_kind : (unit : UnitValue) → IsUnit unit → is_kind (object_of unit) 3 (strtab_index unit) ≡ true
 strings_kind unit is =
@@ -105,28 +94,18 @@ strings_kind unit is =
 is_first : (unit : UnitValue) → IsUnit unit → (i : ℕ) → i ≡ suc (length unit.sections + 0) → is_this (symbol_table (object_of unit)) i ≡ true
 is_first unit is i e = ap (λ o. is_this o i) (first_table unit is) ∙ eq-eqb i (suc (length unit.sections + 0)) e
 
-symtab_link : (unit : UnitValue) → IsUnit unit → link_fault (object_of unit) (suc (length unit.sections + 0)) ≡ None
+symtab_link : (unit : UnitValue) → IsUnit unit → let i : ℕ = suc (length unit.sections + 0) in then_some (is_bad_link (object_of unit) i (symbols_read unit)) (fault.Link i) ≡ None
 symtab_link unit is =
     let i : ℕ = suc (length unit.sections + 0) in
     let size : ℕ = length (own.symbol_table_bytes unit.symbols) in
     let n = length_symbols unit.symbols in
     let whole : eqb (size % 16) 0 ≡ true = eq-eqb (size % 16) 0 (omega (arith, n)) in
-    link_by (object_of unit) i _ (symtab_read unit is)
+    link_by (object_of unit) i (symbols_read unit)
     (other_than_names unit is i true (other_index i (suc (length unit.sections + 2)) (omega arith)))
     (four_nots (is_this (symbol_table (object_of unit)) i) (is_kind (object_of unit) 3 (strtab_index unit)) true (eqb (size % 16) 0) (is_first unit is i refl) (strings_kind unit is) refl whole)
     refl refl
 
-strtab_link : (unit : UnitValue) → IsUnit unit → link_fault (object_of unit) (suc (length unit.sections + 1)) ≡ None
-strtab_link unit is =
-    let i : ℕ = suc (length unit.sections + 1) in
-    link_by (object_of unit) i _ (strtab_read unit is) (other_than_names unit is i false (other_index i (suc (length unit.sections + 2)) (omega arith))) refl refl refl
-
-shstrtab_link : (unit : UnitValue) → IsUnit unit → link_fault (object_of unit) (suc (length unit.sections + 2)) ≡ None
-shstrtab_link unit is =
-    let i : ℕ = suc (length unit.sections + 2) in
-    link_by (object_of unit) i _ (shstrtab_read unit is) (and_right (eqb i (name_table (object_of unit))) false refl) refl refl refl
-
-relocations_link : (unit : UnitValue) → IsUnit unit → (j : ℕ) → j < length (relocated_in unit) → link_fault (object_of unit) (suc (length unit.sections + (3 + j))) ≡ None
+relocations_link : (unit : UnitValue) → IsUnit unit → (j : ℕ) → j < length (relocated_in unit) → let i : ℕ = suc (length unit.sections + (3 + j)) in then_some (is_bad_link (object_of unit) i (relocations_head_read unit j)) (fault.Link i) ≡ None
 relocations_link unit is j lt =
     let i : ℕ = suc (length unit.sections + (3 + j)) in
     let file : List ℕ = object_of unit in
@@ -136,15 +115,11 @@ relocations_link unit is j lt =
     let m = length_relocations unit.relocations (target_of unit j) in
     let within : ltb (target_of unit j + 1) (section_count file) ≡ true = lt-ltb (target_of unit j + 1) (section_count file) (omega (arith, target, n)) in
     let whole : eqb (size % 12) 0 ≡ true = eq-eqb (size % 12) 0 (omega (arith, m)) in
-    link_by file i _ (relocations_read unit is j lt)
+    link_by file i (relocations_head_read unit j)
     (other_than_names unit is i true (above i (suc (length unit.sections + 2)) (omega arith)))
     refl (ap not within)
     (and_right (is_loaded_header (header_of file (target_of unit j + 1))) _
     (three_nots (is_this (symbol_table file) (symtab_index unit)) true (eqb (size % 12) 0) (is_first unit is (symtab_index unit) (omega arith)) refl whole))
-
-zero_link : (unit : UnitValue) → IsUnit unit → link_fault (object_of unit) 0 ≡ None
-zero_link unit is =
-    link_by (object_of unit) 0 (header no_head) (zero_header unit is) (other_than_names unit is 0 true (other_index 0 (suc (length unit.sections + 2)) (omega arith))) refl refl refl
 
 names_link : (unit : UnitValue) → IsUnit unit → name_table_fault (object_of unit) ≡ None
 unfolding name_table_fault
@@ -159,9 +134,14 @@ pub both_none : {A : Type 0} (a b : Option A) → a ≡ None → b ≡ None → 
 both_none a b p q = rw p q
 
 pub no_link_faults : (unit : UnitValue) → IsUnit unit → link_faults (object_of unit) ≡ None
-unfolding link_faults
+unfolding link_faults link_fault
 no_link_faults unit is =
-    both_none (first_below (link_fault (object_of unit)) (section_count (object_of unit))) (name_table_fault (object_of unit))
-    (nothing_below (link_fault (object_of unit)) (section_count (object_of unit))
-    (every_index (λ i. link_fault (object_of unit) i ≡ None) unit is (zero_link unit is) (part_link unit is) (symtab_link unit is) (strtab_link unit is) (shstrtab_link unit is) (relocations_link unit is)))
+    let file : List ℕ = object_of unit in
+    let n : ℕ = length unit.sections in
+    both_none (first_below (link_fault file) (section_count file)) (name_table_fault file)
+    (nothing_below (link_fault file) (section_count file)
+    (every_header (λ i h. then_some (is_bad_link file i h) (fault.Link i) ≡ None) unit is
+    (link_by file 0 (header no_head) (other_than_names unit is 0 true (other_index 0 (suc (n + 2)) (omega arith))) refl refl refl) (part_link unit is) (symtab_link unit is)
+    (link_by file (suc (n + 1)) (strings_read unit) (other_than_names unit is (suc (n + 1)) false (other_index (suc (n + 1)) (suc (n + 2)) (omega arith))) refl refl refl)
+    (link_by file (suc (n + 2)) (names_read unit) (and_right (eqb (suc (n + 2)) (name_table file)) false refl) refl refl refl) (relocations_link unit is)))
     (names_link unit is)

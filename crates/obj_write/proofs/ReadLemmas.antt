@@ -1,7 +1,7 @@
 -- Bytes that stand at a place of a file, and what is read there.
 use Rattle.std.proofs.Common.{◌≡◌, ℕ, zero, suc, ◌+◌, ◌*◌, ◌/◌, ◌%◌, ◌<◌, ◌≤◌, ◌^◌, List, [], ◌∷◌, ◌++◌, refl, ap, sym, subst, ◌∙◌, arith, append_assoc, length, take, drop, get_or, length-append, Bool, true, false, cond, ltb, slice_index, ◌⊎◌, inl, inr}
 use Rattle.std.specs.List.{flat_map}
-use Rattle.std.proofs.lemmas.Bool.{cases_lt}
+use Rattle.std.proofs.lemmas.Bool.{cases_lt, le-ltb}
 use Rattle.std.proofs.lemmas.Bool.Decides.{nat_tests}
 use Rattle.std.proofs.lemmas.List.{drop_at, get_or_at, length-take, take-append-drop}
 use Rattle.byteorder.specs.Endian.{little_number}
@@ -52,15 +52,10 @@ stands_part file bytes at n m within s =
     let after = stands_right file at (at + n) (take n bytes) (drop n bytes) (omega (arith, l, le)) (subst (Stands file at) (sym (take-append-drop n bytes)) s) in
     stands_left file (at + n) (take m (drop n bytes)) (drop m (drop n bytes)) (subst (Stands file (at + n)) (sym (take-append-drop m (drop n bytes))) after)
 
-unless : (b : Bool) (n : ℕ) → b ≡ false → cond b 0 n ≡ n
-unless false n e = refl
-unless true n e = cc
-
 pub word_read : (file : List ℕ) (at n : ℕ) → n < 2 ^ 32 → Stands file at (long_bytes n) → long_at file at ≡ n
 unfolding long_at
 word_read file at n small s =
-    let w : at + 4 ≤ length file = stands_within file at (long_bytes n) s in
-    unless (ltb (length file) (at + 4)) (little_number 4 (drop at file)) (grind (arith, nat_tests))
+    ap (λ b. cond b 0 (little_number 4 (drop at file))) (le-ltb (length file) (at + 4) (stands_within file at (long_bytes n) s))
     ∙ (ap (little_number 4) (stands_drop file at (long_bytes n) s) ∙ little_number-reads_back 4 n s.rest small)
 
 four_bytes : (a b c d a' b' c' d' : ℕ) → a ≡ a' → b ≡ b' → c ≡ c' → d ≡ d' → let x : List ℕ = a ∷ (b ∷ (c ∷ (d ∷ []))) in let y : List ℕ = a' ∷ (b' ∷ (c' ∷ (d' ∷ []))) in x ≡ y
@@ -79,8 +74,7 @@ word_low file at n s = word_read file at (n % 4294967296) (omega arith) (subst (
 pub half_read : (file : List ℕ) (at n : ℕ) → n < 2 ^ 16 → Stands file at (half_bytes n) → half_at file at ≡ n
 unfolding half_at
 half_read file at n small s =
-    let w : at + 2 ≤ length file = stands_within file at (half_bytes n) s in
-    unless (ltb (length file) (at + 2)) (little_number 2 (drop at file)) (grind (arith, nat_tests))
+    ap (λ b. cond b 0 (little_number 2 (drop at file))) (le-ltb (length file) (at + 2) (stands_within file at (half_bytes n) s))
     ∙ (ap (little_number 2) (stands_drop file at (half_bytes n) s) ∙ little_number-reads_back 2 n s.rest small)
 
 pub byte_read : (file : List ℕ) (at b : ℕ) (bs : List ℕ) → Stands file at (b ∷ bs) → slice_index file at ≡ b

@@ -1,7 +1,7 @@
 -- Relocations, put to the sections that they are of.
 use Rattle.std.proofs.Common.{◌≡◌, ◌≢◌, ℕ, ◌+◌, ◌<◌, List, [], ◌∷◌, ◌++◌, map, refl, ap, sym, ◌∙◌, ◌⊎◌, inl, inr, arith, length, take, get_or, set, Bool, true, false, cond, eqb, length-append}
 use Rattle.std.specs.List.{filter, flat_map}
-use Rattle.std.proofs.lemmas.Bool.{cases_eq}
+use Rattle.std.proofs.lemmas.Bool.{cases_eq, eq-eqb}
 use Rattle.std.proofs.lemmas.Bool.Decides.{nat_tests}
 use Rattle.std.proofs.lemmas.List.{append-nil, length-set, get_or-set_same, get_or-set_other, ext_get_or, map-set, get_or-map, get_or_default, nil_from_length, length-map, map_push}
 use Rattle.std.proofs.lemmas.List.Elements.{filter_more}
@@ -28,18 +28,18 @@ table_same rs i r section lt is =
 -- of its section
 table_more : (rs : List AsmRelocation) (i : ℕ) (r : AsmRelocation) → i < length rs → r ≡ get_or rs i r
     → relocation_table (take (i + 1) rs) r.section ≡ relocation_table (take i rs) r.section ++ relocation_entry r
-table_more rs i r lt is = table_same rs i r r.section lt is ∙ by (eqb r.section r.section) (grind (arith, nat_tests)) where
-  by : (b : Bool) → b ≡ true → relocation_table (take i rs) r.section ++ flat_map relocation_entry (cond b (r ∷ []) []) ≡ relocation_table (take i rs) r.section ++ relocation_entry r
-  by true e = ap (λ l. relocation_table (take i rs) r.section ++ l) (append-nil (relocation_entry r))
-  by false e = cc
+table_more rs i r lt is =
+    table_same rs i r r.section lt is
+    ∙ (ap (λ b. relocation_table (take i rs) r.section ++ flat_map relocation_entry (cond b (r ∷ []) [])) (eq-eqb r.section r.section refl)
+    ∙ ap (λ l. relocation_table (take i rs) r.section ++ l) (append-nil (relocation_entry r)))
 
 -- of another section
 table_kept : (rs : List AsmRelocation) (i : ℕ) (r : AsmRelocation) (section : ℕ) → i < length rs → r ≡ get_or rs i r → section ≢ r.section
     → relocation_table (take (i + 1) rs) section ≡ relocation_table (take i rs) section
-table_kept rs i r section lt is other = table_same rs i r section lt is ∙ by (eqb r.section section) (grind (arith, nat_tests)) where
-  by : (b : Bool) → b ≡ false → relocation_table (take i rs) section ++ flat_map relocation_entry (cond b (r ∷ []) []) ≡ relocation_table (take i rs) section
-  by false e = append-nil (relocation_table (take i rs) section)
-  by true e = cc
+table_kept rs i r section lt is other =
+    let not_its : eqb r.section section ≡ false = grind (arith, nat_tests) in
+    table_same rs i r section lt is
+    ∙ (ap (λ b. relocation_table (take i rs) section ++ flat_map relocation_entry (cond b (r ∷ []) [])) not_its ∙ append-nil (relocation_table (take i rs) section))
 
 at_set : (f g : ℕ → List ℕ) (n s : ℕ) (y : List ℕ) → s < n → g s ≡ y → ((k : ℕ) → k < n → k ≢ s → g k ≡ f k)
     → (k : ℕ) → k < n → (k ≡ s) ⊎ (k ≡ s → ⊥) → g k ≡ get_or (set (each_below f n) s y) k []

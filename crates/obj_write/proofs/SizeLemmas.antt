@@ -141,13 +141,9 @@ length_relocations rs i = entries_length (relocations_in rs i)
 pub relocations_few : (rs : List AsmRelocation) (i : ℕ) → length (relocation_table rs i) ≤ 12 * length rs
 relocations_few rs i = let a = length_relocations rs i in let b = filter_few (λ (r : AsmRelocation). eqb r.section i) rs in omega (arith, a, b)
 
-length_symbol_entry : (name : ℕ) (s : SymbolValue) → length (symbol_entry name s) ≡ 16
-unfolding symbol_entry
-length_symbol_entry name s = refl
-
 pub length_symbol_at : (symbols : List SymbolValue) (k : ℕ) → length (entry_at symbols k) ≡ 16
-unfolding symbol_entry_at
-length_symbol_at symbols k = length_symbol_entry (name_at (symbol_names symbols) k) _
+unfolding symbol_entry_at symbol_entry
+length_symbol_at symbols k = refl
 
 pub length_symbols : (symbols : List SymbolValue) → length (symbol_table_bytes symbols) ≡ 16 + 16 * length symbols
 length_symbols symbols =

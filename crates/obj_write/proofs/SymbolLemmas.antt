@@ -52,11 +52,9 @@ entry_added xs i name x strings old new lt is table place more so_far =
     ∙ (append_assoc z (all_below f i) (symbol_entry name (symbol_value x))
     ∙ ap (λ l. z ++ l) (ap (λ l. all_below f i ++ l) (entry_at_is xs i name x lt is at) ∙ sym (all_below_more f i))))
 
-no_entries : (xs : List AsmSymbol) → replicate symbol_size 0 ≡ replicate symbol_size 0 ++ all_below (entry_at (map symbol_value xs)) 0
-no_entries xs = sym (ap (λ l. replicate symbol_size 0 ++ l) (all_below_zero (entry_at (map symbol_value xs))) ∙ append-nil (replicate symbol_size 0))
-
 pub table_begun : (xs : List AsmSymbol) (table : List ℕ) → table ≡ replicate symbol_size 0 → table ≡ replicate symbol_size 0 ++ all_below (entry_at (map symbol_value xs)) 0
-table_begun xs table is = is ∙ no_entries xs
+table_begun xs table is =
+    is ∙ sym (ap (λ l. replicate symbol_size 0 ++ l) (all_below_zero (entry_at (map symbol_value xs))) ∙ append-nil (replicate symbol_size 0))
 
 pub table_whole : (xs : List AsmSymbol) (table : List ℕ) (n : ℕ) → n ≡ length xs
     → table ≡ replicate symbol_size 0 ++ all_below (entry_at (map symbol_value xs)) n → table ≡ symbol_table_bytes (map symbol_value xs)

@@ -123,10 +123,6 @@ heads_more sections s =
     ∙ (ap (λ l. l ++ head_at more (length sections) ∷ []) before
     ∙ ap (λ (h : Head). heads_of sections ++ h ∷ []) (head_at_end sections s))))
 
-pub no_sections : (s : Sections) → s.contents.items ≡ [] → s.heads.items ≡ [] → AreSections [] s
-unfolding padded_contents heads_of
-no_sections s contents heads = record { contents = contents; heads = heads }
-
 -- a section more
 pub sections_more : (sections : List FileSection) (head : Head) (content : List ℕ) (old new : Sections)
     → new.contents.items ≡ old.contents.items ++ padded_bytes content

@@ -69,7 +69,7 @@ pub fn put_heads(out: &mut Vec<u8>, heads: &[Head]) -> Result<(), AllocError>
 
 impl Sections {
     /// No sections.
-    #[tactic(auto, using(crate::proofs::TableLemmas::no_sections))]
+    #[tactic(auto, unfolding(crate::specs::Sections::padded_contents, crate::specs::Sections::heads_of))]
     pub fn new(alloc: Global) -> Sections
         ensures { AreSections [] result }
     {
