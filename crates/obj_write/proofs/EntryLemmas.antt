@@ -19,8 +19,6 @@ use Rattle.elf_objects.specs.Names.{end_in, name_end}
 use Rattle.elf_objects.specs.Symbol.{table_entry, count_in, strings_of, is_bad_common, is_bad_home, symbol_fault, symbols_header, count_of, faults_in, symbol_faults}
 use Rattle.elf_objects.specs.Relocation.{relocation_of, entry_fault, relocation_fault, relocation_faults}
 use Rattle.elf_objects.specs.Object.{contents_fault, elf_fault_of}
-use Rattle.asm_text.specs.declared.unit.SectionKind.{SectionKind}
-use Rattle.asm_text.specs.declared.unit.SectionKind.TheVariants.{Code}
 use Rattle.asm_text.specs.declared.unit.AsmRelocation.{AsmRelocation}
 use Rattle.asm_text.specs.Parts.{SymbolValue, UnitValue, IsUnit, IsSymbolValue, IsAsmRelocation}
 use Rattle.elf_objects.specs.Numbers.{symbol_size}
@@ -30,7 +28,7 @@ use Rattle.obj_write.specs.Symbols.{info_of, home_index, symbol_entry, symbol_en
 use Rattle.obj_write.specs.Symbols as own
 use Rattle.obj_write.specs.Relocations.{relocation_entry, relocation_table, relocations_in}
 use Rattle.obj_write.specs.internal.Object.{no_part}
-use Rattle.obj_write.specs.Object.{section_type, relocated_in, object_of}
+use Rattle.obj_write.specs.Object.{relocated_in, object_of}
 use Rattle.obj_write.proofs.ReadLemmas.{Stands, stands_left, stands_right, stands_part, stands_below, stands_each, length_below, word_read, word_low, half_read, byte_read}
 use Rattle.obj_write.proofs.FileLemmas.{nothing_below}
 use Rattle.obj_write.proofs.RelocationLemmas.{no_relocation}

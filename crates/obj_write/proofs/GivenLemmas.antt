@@ -19,8 +19,6 @@ use Rattle.elf_objects.specs.Names.{section_of, sections_of}
 use Rattle.elf_objects.specs.Symbol.{table_entry, strings_of, binding_of, home_of, symbol_of, symbols_in, symbols_of}
 use Rattle.elf_objects.specs.Relocation.{relocation_of, relocations_at, relocations_of}
 use Rattle.elf_objects.specs.Object.{ObjectValue, IsObject}
-use Rattle.asm_text.specs.declared.unit.SectionKind.{SectionKind}
-use Rattle.asm_text.specs.declared.unit.SectionKind.TheVariants.{Code}
 use Rattle.asm_text.specs.declared.unit.AsmRelocation.{AsmRelocation}
 use Rattle.asm_text.specs.Parts.{SectionValue, SymbolValue, UnitValue, IsUnit, IsSymbolValue, IsAsmRelocation}
 use Rattle.obj_write.specs.Bytes.{long_bytes}
@@ -28,7 +26,7 @@ use Rattle.obj_write.specs.Strings.{string_table}
 use Rattle.obj_write.specs.Symbols.{info_of, home_index, symbol_names}
 use Rattle.obj_write.specs.Relocations.{relocation_entry, relocations_in}
 use Rattle.obj_write.specs.internal.Object.{no_part}
-use Rattle.obj_write.specs.Object.{section_type, section_flags, relocated_in, object_of}
+use Rattle.obj_write.specs.Object.{relocated_in, object_of}
 use Rattle.obj_write.specs.Reader.{IsPartRead, IsSymbolOf, binding_read, home_read, relocation_read, table_read, IsObjectOf}
 use Rattle.obj_write.proofs.PassLemmas.{each_below_same, each_numbered, all_numbered}
 use Rattle.obj_write.proofs.ReadLemmas.{Stands, stands_left, stands_part, word_read, word_low, header}

@@ -12,7 +12,6 @@ use Rattle.elf_objects.specs.declared.section.Header.{Header}
 use Rattle.elf_objects.specs.Header.{section_count, name_table}
 use Rattle.elf_objects.specs.Section.{header_of, is_loaded_header, is_kind, index_if, is_this, symbol_table, is_bad_symbol_table, is_kept_table, is_bad_kept_table, is_bad_link, link_fault, link_faults, name_table_fault}
 use Rattle.asm_text.specs.declared.unit.SectionKind.{SectionKind}
-use Rattle.asm_text.specs.declared.unit.SectionKind.TheVariants.{Code}
 use Rattle.asm_text.specs.Parts.{UnitValue, IsUnit}
 use Rattle.obj_write.specs.Symbols as own
 use Rattle.obj_write.specs.Relocations.{relocation_table}
@@ -22,7 +21,7 @@ use Rattle.obj_write.proofs.ReadLemmas.{header}
 use Rattle.obj_write.proofs.FileLemmas.{nothing_below, no_head}
 use Rattle.obj_write.proofs.SizeLemmas.{length_relocations, length_symbols}
 use Rattle.obj_write.proofs.UnitLemmas.{target_of}
-use Rattle.obj_write.proofs.HeaderLemmas.{of_kinds, part_head_read, symbols_read, strings_read, names_read, relocations_head_read, counted_sections, zero_header, part_read, symtab_read, strtab_read, shstrtab_read, relocations_read, target_within}
+use Rattle.obj_write.proofs.HeaderLemmas.{of_kinds, part_head_read, symbols_read, strings_read, names_read, relocations_head_read, counted_sections, zero_header, part_read, symtab_read, strtab_read, target_within}
 use Rattle.obj_write.proofs.FaultLemmas.{every_header, names_at}
 
 -- ---- tests

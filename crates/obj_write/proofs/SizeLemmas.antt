@@ -1,8 +1,9 @@
 -- How many bytes the parts of a unit's file have.
-use Rattle.std.proofs.Common.{◌≡◌, ℕ, zero, suc, ◌+◌, ◌*◌, ◌-◌, ◌<◌, ◌≤◌, List, [], ◌∷◌, ◌++◌, refl, ap, sym, subst, ◌∙◌, arith, length, get_or, length-append, Bool, true, false, cond, eqb, inl, inr, replicate}
-use Rattle.std.specs.List.{flat_map, filter, All}
+use Rattle.std.proofs.Common.{◌≡◌, ℕ, zero, suc, ◌+◌, ◌*◌, ◌-◌, ◌<◌, ◌≤◌, List, [], ◌∷◌, ◌++◌, refl, ap, sym, subst, ◌∙◌, arith, length, get_or, length-append, Bool, eqb, inl, inr, replicate}
+use Rattle.std.specs.List.{flat_map, All}
 use Rattle.std.proofs.lemmas.Bool.{cases_lt}
 use Rattle.std.proofs.lemmas.List.{length-replicate, get_or_append_left, get_or-append-add}
+use Rattle.std.proofs.lemmas.List.Sums.{length-filter, count_by-le-length}
 use Rattle.std.proofs.lemmas.List.Elements.{All-head, All-tail}
 use Rattle.elf_objects.specs.Passes.{each_below, all_below}
 use Rattle.elf_objects.proofs.PassLemmas.{length_each_below, at_each}
@@ -10,9 +11,9 @@ use Rattle.asm_text.specs.declared.unit.AsmRelocation.{AsmRelocation}
 use Rattle.asm_text.specs.Parts.{SymbolValue, UnitValue}
 use Rattle.elf_objects.specs.Numbers.{symbol_size}
 use Rattle.obj_write.specs.Bytes.{gap, padded_bytes}
-use Rattle.obj_write.specs.Strings.{terminated, string_table, name_at}
+use Rattle.obj_write.specs.Strings.{terminated, string_table}
 use Rattle.obj_write.specs.Sections.{FileSection}
-use Rattle.obj_write.specs.Symbols.{symbol_entry, symbol_entry_at, symbol_names, symbol_table_bytes}
+use Rattle.obj_write.specs.Symbols.{symbol_entry, symbol_entry_at, symbol_table_bytes}
 use Rattle.obj_write.specs.Relocations.{relocation_entry, relocations_in, relocation_table}
 use Rattle.obj_write.specs.Object.{relocated_in, symtab_section, strtab_section, shstrtab_section, table_sections, relocation_sections, file_sections}
 use Rattle.obj_write.proofs.ReadLemmas.{length_below}
@@ -119,13 +120,6 @@ table_few names most all = let e = by names most all in omega (arith, e) where
       let d = by names most (All-tail (λ (n : List ℕ). length n ≤ most) name names all) in
       omega (arith, a, b, c, d)
 
-filter_few : (p : AsmRelocation → Bool) (rs : List AsmRelocation) → length (filter p rs) ≤ length rs
-filter_few p [] = omega arith
-filter_few p (r ∷ rs) = by (p r) (filter_few p rs) where
-  by : (b : Bool) → length (filter p rs) ≤ length rs → length (cond b (r ∷ filter p rs) (filter p rs)) ≤ suc (length rs)
-  by true le = omega arith
-  by false le = omega arith
-
 pub entries_length : (rs : List AsmRelocation) → length (flat_map relocation_entry rs) ≡ 12 * length rs
 entries_length [] = refl
 entries_length (r ∷ rs) =
@@ -139,7 +133,12 @@ unfolding relocation_table
 length_relocations rs i = entries_length (relocations_in rs i)
 
 pub relocations_few : (rs : List AsmRelocation) (i : ℕ) → length (relocation_table rs i) ≤ 12 * length rs
-relocations_few rs i = let a = length_relocations rs i in let b = filter_few (λ (r : AsmRelocation). eqb r.section i) rs in omega (arith, a, b)
+relocations_few rs i =
+    let its : AsmRelocation → Bool = λ r. eqb r.section i in
+    let a = length_relocations rs i in
+    let b = length-filter its rs in
+    let c = count_by-le-length its rs in
+    omega (arith, a, b, c)
 
 pub length_symbol_at : (symbols : List SymbolValue) (k : ℕ) → length (entry_at symbols k) ≡ 16
 unfolding symbol_entry_at symbol_entry
