@@ -5,7 +5,7 @@ use Rattle.insn_decode.specs.declared.insn.OneOp.{OneOp}
 use Rattle.insn_decode.specs.declared.insn.OneOp.TheVariants.{Push, Call}
 use Rattle.insn_decode.specs.declared.insn.Operand.{Operand}
 use Rattle.insn_decode.specs.declared.insn.Operand.TheVariants.{Reg, Const, Imm, Indirect, Increment}
-use Rattle.cycle_table.specs.Cycles.{by_place, two_cycles, by_operation, one_cycles}
+use Rattle.cycle_table.specs.Cycles.{by_place, two_cycles, in_place, by_operation, one_cycles}
 
 -- what holds of each number of a row holds of the one that is taken
 placed : (P : ℕ → Type 0) (d : Operand) (register pc memory : ℕ) → P register → P pc → P memory → P (by_place d register pc memory)
@@ -30,18 +30,26 @@ two_least s d = rows (λ n. 1 ≤ n) s d (omega arith) (omega arith) (omega arit
 pub two_most : (s d : Operand) → two_cycles s d ≤ 6
 two_most s d = rows (λ n. n ≤ 6) s d (omega arith) (omega arith) (omega arith) (omega arith) (omega arith) (omega arith)
 
-one_of_three : (P : ℕ → Type 0) (op : OneOp) (in_place push call : ℕ) → P in_place → P push → P call → P (by_operation op in_place push call)
-one_of_three P Push in_place push call a b c = b
-one_of_three P Call in_place push call a b c = c
-one_of_three P _ in_place push call a b c = a
+-- an operation in place takes 1, 3 or 4
+places : (P : ℕ → Type 0) (a : Operand) → P 1 → P 3 → P 4 → P (in_place a)
+places P (Reg r) b c e = b
+places P (Const n) b c e = c
+places P (Indirect r) b c e = c
+places P (Increment r) b c e = c
+places P _ b c e = e
+
+operations : (P : ℕ → Type 0) (op : OneOp) (a : Operand) (push call : ℕ) → P 1 → P 3 → P 4 → P push → P call → P (by_operation op a push call)
+operations P Push a push call b c e f g = f
+operations P Call a push call b c e f g = g
+operations P _ a push call b c e f g = places P a b c e
 
 one_rows : (P : ℕ → Type 0) (a : Operand) (op : OneOp) → P 1 → P 3 → P 4 → P 5 → P (one_cycles a op)
-one_rows P (Reg r) op b c e f = one_of_three P op 1 3 4 b c e
-one_rows P (Const n) op b c e f = one_of_three P op 1 3 4 b c e
-one_rows P (Indirect r) op b c e f = one_of_three P op 3 4 4 c e e
-one_rows P (Increment r) op b c e f = one_of_three P op 3 5 5 c f f
-one_rows P (Imm x) op b c e f = one_of_three P op 3 4 5 c e f
-one_rows P _ op b c e f = one_of_three P op 4 5 5 e f f
+one_rows P (Reg r) op b c e f = operations P op (Reg r) 3 4 b c e c e
+one_rows P (Const n) op b c e f = operations P op (Const n) 3 4 b c e c e
+one_rows P (Indirect r) op b c e f = operations P op (Indirect r) 4 4 b c e e e
+one_rows P (Increment r) op b c e f = operations P op (Increment r) 5 5 b c e f f
+one_rows P (Imm x) op b c e f = operations P op (Imm x) 4 5 b c e e f
+one_rows P a op b c e f = operations P op a 5 5 b c e f f
 
 pub one_least : (a : Operand) (op : OneOp) → 1 ≤ one_cycles a op
 one_least a op = one_rows (λ n. 1 ≤ n) a op (omega arith) (omega arith) (omega arith) (omega arith)

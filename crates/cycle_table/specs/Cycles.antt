@@ -1,10 +1,11 @@
 -- The two tables of cycles (made after the MSP430x1xx Family User's Guide SLAU049, section 3.4.4).
-use Rattle.std.specs.Prelude.{ℕ, ◌==◌, if◌then◌else◌}
+use Rattle.std.specs.Prelude.{ℕ, ◌+◌, ◌==◌, if◌then◌else◌}
 use Rattle.sm_words.specs.declared.registers.TheConstants.{PC}
 use Rattle.insn_decode.specs.declared.insn.OneOp.{OneOp}
 use Rattle.insn_decode.specs.declared.insn.OneOp.TheVariants.{Push, Call}
 use Rattle.insn_decode.specs.declared.insn.Operand.{Operand}
 use Rattle.insn_decode.specs.declared.insn.Operand.TheVariants.{Reg, Const, Imm, Indirect, Increment}
+use Rattle.insn_decode.specs.Code.{words_of}
 use Rattle.insn_decode.specs.declared.insn.Insn.{Insn}
 use Rattle.insn_decode.specs.declared.insn.Insn.TheVariants.{Two, One, Jump, Reti, Unit as UnitOp}
 
@@ -22,20 +23,26 @@ two_cycles (Increment r) d = by_place d 2 3 5
 two_cycles (Imm x) d = by_place d 2 3 5
 two_cycles _ d = by_place d 3 3 6
 
--- format II has a column for RRC, RRA, SWPB and SXT, one for PUSH, and one for CALL
-abbrev pub by_operation : OneOp → (in_place push call : ℕ) → ℕ
-by_operation Push in_place push call = push
-by_operation Call in_place push call = call
-by_operation _ in_place push call = in_place
+-- format II has one column for RRC, RRA, SWPB and SXT, by the place that they change: a register, or memory, and a cycle more for
+-- an extension word
+abbrev pub in_place : Operand → ℕ
+in_place (Reg r) = 1
+in_place a = 3 + words_of a
 
--- its rows, by the operand: a constant's is that of a register, and the last row as above
+-- and one each for PUSH and CALL
+abbrev pub by_operation : OneOp → Operand → (push call : ℕ) → ℕ
+by_operation Push a push call = push
+by_operation Call a push call = call
+by_operation _ a push call = in_place a
+
+-- whose rows go by the operand: a constant's is that of a register, and the last is as above
 abbrev pub one_cycles : Operand → OneOp → ℕ
-one_cycles (Reg r) op = by_operation op 1 3 4
-one_cycles (Const c) op = by_operation op 1 3 4
-one_cycles (Indirect r) op = by_operation op 3 4 4
-one_cycles (Increment r) op = by_operation op 3 5 5
-one_cycles (Imm x) op = by_operation op 3 4 5
-one_cycles _ op = by_operation op 4 5 5
+one_cycles (Reg r) op = by_operation op (Reg r) 3 4
+one_cycles (Const c) op = by_operation op (Const c) 3 4
+one_cycles (Indirect r) op = by_operation op (Indirect r) 4 4
+one_cycles (Increment r) op = by_operation op (Increment r) 5 5
+one_cycles (Imm x) op = by_operation op (Imm x) 4 5
+one_cycles a op = by_operation op a 5 5
 
 -- the cycles of an instruction; of a unit instruction those that it takes at least
 unfoldable pub cycles_of : Insn → ℕ

@@ -3,7 +3,7 @@
 
 ghost use Rattle.std.specs.Prelude.{◌≡◌, ◌≤◌, ◌<◌, IsFalse};
 ghost use Rattle.insn_decode.specs.Code.{is_unit};
-ghost use Rattle.cycle_table.specs.Cycles.{cycles_of, by_place, two_cycles, by_operation, one_cycles};
+ghost use Rattle.cycle_table.specs.Cycles.{cycles_of, by_place, two_cycles, in_place, by_operation, one_cycles};
 
 use insn_decode::{Insn, OneOp, Operand};
 use sm_words::PC;
@@ -56,14 +56,26 @@ fn two_cycles(src: Operand, dst: Operand) -> u8
     }
 }
 
+/// Format II: RRC, RRA, SWPB and SXT, at the place that they change.
+fn in_place(arg: Operand) -> u8
+    ensures exact { result ≡ in_place arg }
+    ensures least { 1 ≤ result }
+    ensures most { result ≤ 4 }
+{
+    match arg {
+        Operand::Reg(_) => 1,
+        _ => 3 + arg.words() as u8,
+    }
+}
+
 /// Format II: the number for this operation.
-fn by_operation(op: OneOp, in_place: u8, push: u8, call: u8) -> u8
-    ensures { result ≡ by_operation op in_place push call }
+fn by_operation(op: OneOp, arg: Operand, push: u8, call: u8) -> u8
+    ensures { result ≡ by_operation op arg push call }
 {
     match op {
         OneOp::Push => push,
         OneOp::Call => call,
-        OneOp::Rrc | OneOp::Swpb | OneOp::Rra | OneOp::Sxt => in_place,
+        OneOp::Rrc | OneOp::Swpb | OneOp::Rra | OneOp::Sxt => in_place(arg),
     }
 }
 
@@ -75,12 +87,12 @@ fn one_cycles(arg: Operand, op: OneOp) -> u8
     ensures most { result ≤ 6 }
 {
     match arg {
-        Operand::Reg(_) | Operand::Const(_) => by_operation(op, 1, 3, 4),
-        Operand::Indirect(_) => by_operation(op, 3, 4, 4),
-        Operand::Increment(_) => by_operation(op, 3, 5, 5),
-        Operand::Imm(_) => by_operation(op, 3, 4, 5),
+        Operand::Reg(_) | Operand::Const(_) => by_operation(op, arg, 3, 4),
+        Operand::Indirect(_) => by_operation(op, arg, 4, 4),
+        Operand::Increment(_) => by_operation(op, arg, 5, 5),
+        Operand::Imm(_) => by_operation(op, arg, 4, 5),
         Operand::Indexed { .. } | Operand::Symbolic(_) | Operand::Absolute(_) => by_operation(
-            op, 4, 5, 5,
+            op, arg, 5, 5,
         ),
     }
 }
