@@ -1,8 +1,7 @@
 -- An iteration needs only the steps of the program points whose state changed in the iteration before.
-use Rattle.std.proofs.Common.{◌≡◌, ◌⊎◌, inl, inr, ℕ, suc, ◌<◌, List, [], ◌∷◌, ◌++◌, length, refl, sym, ap, ◌∙◌, subst, arith, Bool, true, false, cond, nat_eq, ◌==◌, ◌&&◌}
+use Rattle.std.proofs.Common.{◌≡◌, ◌⊎◌, inl, inr, ℕ, suc, ◌<◌, List, [], ◌∷◌, ◌++◌, length, refl, sym, ap, ◌∙◌, subst, Bool, true, false, cond, nat_eq, ◌==◌, ◌&&◌}
 use Rattle.std.specs.Cmp.Lexicographic.{pointwise}
-use Rattle.std.proofs.lemmas.Bool.Decides.{nat_tests}
-use Rattle.std.proofs.lemmas.Bool.{both_ways}
+use Rattle.std.proofs.lemmas.Bool.{both_ways, eq-eqb}
 use Rattle.flow_rule.specs.declared.Val.{Val}
 use Rattle.flow_rule.specs.declared.Val.TheVariants.{Known, Away, Public, Secret}
 use Rattle.flow_rule.specs.declared.AbstractState.{AbstractState}
@@ -15,9 +14,6 @@ use Rattle.flow_check.proofs.Joins.{join_own}
 use Rattle.flow_check.specs.internal.Labellings.{joined_point, changed_points, Subsumed, AllSubsumed, Clean, KeptPoints, Reached}
 
 -- ---- joins subsume
-same_num : (a : ℕ) → (a == a) ≡ true
-same_num a = grind (arith, nat_tests)
-
 join_twice : (v w : Val) → join (join v w) w ≡ join v w
 join_twice (Known a) (Known b) = by (a == b) refl
   where
@@ -73,10 +69,10 @@ absorbs_own l = record { core = each_self l.core; words = each_self l.words }
 
 same_lists : (xs : List ℕ) → pointwise nat_eq xs xs ≡ true
 same_lists [] = refl
-same_lists (x ∷ xs) = ap (λ b. b && pointwise nat_eq xs xs) (same_num x) ∙ same_lists xs
+same_lists (x ∷ xs) = ap (λ b. b && pointwise nat_eq xs xs) (eq-eqb x x refl) ∙ same_lists xs
 
 pub point_self : (p : ProgramPoint) → same_point p p ≡ true
-point_self p = ap (λ b. b && pointwise nat_eq p.call_string p.call_string) (same_num p.addr) ∙ same_lists p.call_string
+point_self p = ap (λ b. b && pointwise nat_eq p.call_string p.call_string) (eq-eqb p.addr p.addr refl) ∙ same_lists p.call_string
 
 -- ---- states and lists of points
 absorbs_joined : (a l : AbstractState) → Absorbs (join_states a l) l

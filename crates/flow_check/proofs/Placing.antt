@@ -8,7 +8,7 @@ use Rattle.std.specs.Map.{lookup}
 use Rattle.std.specs.Cmp.Lexicographic.{slice_cmp}
 use Rattle.std.specs.Ordering.{nat_cmp, is_eq}
 use Rattle.std.specs.declared.cmp.Ordering.{Ordering}
-use Rattle.std.proofs.lemmas.Bool.{both_ways}
+use Rattle.std.proofs.lemmas.Bool.{both_ways, false_from_ne_true}
 use Rattle.std.proofs.lemmas.Option.{same_Some}
 use Rattle.std.proofs.lemmas.Map.Text.{is_eq-slice_cmp}
 use Rattle.arrayvec.specs.ArrayVec.{ArrayVec}
@@ -89,22 +89,10 @@ placed_push ns places p noted h q i f = by (push_same q ns record { point = p; c
 -- ---- what the map tells
 module _ (p : ProgramPoint) (ns : List Node) (places : BTreeMap (ArrayVec ℕ) ℕ) (h : Placed ns places) where
   pub first_there : (i : ℕ) → same_at p ns i ≡ true → (k : ℕ) → k < i → same_at p ns k ≡ false
-  first_there i s k lt = by (same_at p ns k) refl
-    where
-      by : (b : Bool) → same_at p ns k ≡ b → same_at p ns k ≡ false
-      by false f = f
-      by true f = let same : k ≡ i = same_Some k i (sym (h p k f) ∙ h p i s) in absurd (omega (arith, same, lt))
+  first_there i s k lt = false_from_ne_true (same_at p ns k) (λ f. let same : k ≡ i = same_Some k i (sym (h p k f) ∙ h p i s) in omega (arith, same, lt))
 
   pub absent_none : place_of places p ≡ None → Absent p ns
-  absent_none e k lt = by (same_at p ns k) refl
-    where
-      by : (b : Bool) → same_at p ns k ≡ b → same_at p ns k ≡ false
-      by false f = f
-      by true f = absurd (both_ways (is_some (place_of places p)) (ap is_some e) (ap is_some (h p k f)))
+  absent_none e k lt = false_from_ne_true (same_at p ns k) (λ f. both_ways (is_some (place_of places p)) (ap is_some e) (ap is_some (h p k f)))
 
   pub absent_other : (at : ℕ) → place_of places p ≡ Some at → same_at p ns at ≡ false → Absent p ns
-  absent_other at e off k lt = by (same_at p ns k) refl
-    where
-      by : (b : Bool) → same_at p ns k ≡ b → same_at p ns k ≡ false
-      by false f = f
-      by true f = let same : at ≡ k = same_Some at k (sym e ∙ h p k f) in absurd (both_ways (same_at p ns k) (subst (λ i. same_at p ns i ≡ false) same off) f)
+  absent_other at e off k lt = false_from_ne_true (same_at p ns k) (λ f. let same : at ≡ k = same_Some at k (sym e ∙ h p k f) in both_ways (same_at p ns k) (subst (λ i. same_at p ns i ≡ false) same off) f)

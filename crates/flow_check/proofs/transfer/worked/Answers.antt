@@ -4,7 +4,7 @@ use Rattle.cpu_step.specs.Plan.{reads_dst}
 use Rattle.flow_rule.specs.declared.Told.{Told}
 use Rattle.flow_rule.specs.declared.Val.{Val}
 use Rattle.flow_rule.specs.Values.{over}
-use Rattle.flow_rule.specs.Does.{reads_carry, sets_flags, read_if, told_of}
+use Rattle.flow_rule.specs.Does.{sets_flags, read_if, told_of}
 use Rattle.flow_check.proofs.transfer.worked.Goals as goal
 
 abbrev made : Val → Bool → Val → Told
