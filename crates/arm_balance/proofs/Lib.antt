@@ -1,2 +1,2 @@
-pub mod Times
+mod Following
 mod Reading

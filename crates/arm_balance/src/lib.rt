@@ -1,5 +1,5 @@
-//! Balanced branches: certificates that say where both arms of a branch meet and how long each takes, and the time
-//! that an arm takes.
+//! Balanced branches: certificates that say where both arms of a branch meet and how long each takes, and how an
+//! arm goes on.
 //!
 //! The text of certificates has lines `AAAA JJJJ N`: the branch and the join in four lower-case hexadecimal digits, and
 //! the cycles as a decimal without leading zero. The last line may lack its LF.
@@ -8,12 +8,12 @@
 ghost use Rattle.arm_balance.specs.Certificates.{BranchesRise};
 
 mod certificates;
+mod follow;
 mod text;
-mod time;
 
 pub use certificates::read_arms;
+pub use follow::{arm_next, met_arm, target};
 pub use text::{byte, met, word};
-pub use time::{arm_next, arm_time, met_arm, target};
 
 /// A certificate of a balanced branch: where both arms meet, and the cycles that each takes.
 #[derive(Clone, Copy, Debug, PartialEq, Eq)]

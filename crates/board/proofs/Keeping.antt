@@ -5,7 +5,7 @@ use Rattle.pc_access.specs.declared.Stop.{Stop}
 use Rattle.written_machine.specs.Cycle.{Step, cycle, after_cycles}
 use Rattle.written_machine.specs.Marks.{Marked, at_state}
 use Rattle.written_machine.specs.State.{State}
-use Rattle.isolation.proofs.Tame.{cycle_number}
+use Rattle.run_laws.proofs.Tame.{cycle_number}
 use Rattle.board.specs.declared.machine.Machine.{Machine}
 use Rattle.board.specs.declared.moment.Moment.{Moment}
 use Rattle.board.specs.internal.Sound.{Chained, IsSound, Keeps, MachineStands}

@@ -6,7 +6,7 @@ use Rattle.written_machine.specs.Cycle.{Step, told, ticked, settle, turn, counte
 use Rattle.written_machine.specs.Standing.{stands_at, this_or, last_standing}
 use Rattle.written_machine.specs.State.{State}
 use Rattle.written_machine.proofs.Stops.{cycle_by}
-use Rattle.isolation.proofs.Tame.{cycle_number, runs_so_far, settle_same, turn_same, ticked_same}
+use Rattle.run_laws.proofs.Tame.{cycle_number, runs_so_far, settle_same, turn_same, ticked_same}
 use Rattle.board.specs.internal.Sound.{ended_at, RunsTo, LeadsTo, state_number}
 use Rattle.board.proofs.Runs.{state_split, stays, stopped_state}
 

@@ -1,7 +1,7 @@
 //! The board: a machine that a caller runs.
 
 ghost use Rattle.std.specs.Prelude.{◌≡◌, ◌+◌, ◌<◌, ◌≤◌, ◌^◌, [], IfOk, IsSome, is_some, None, length};
-ghost use Rattle.isolation.specs.Calls.{stop_in};
+ghost use Rattle.run_laws.specs.Events.{stop_in};
 ghost use Rattle.written_machine.specs.Checks.{refused_in};
 ghost use Rattle.written_machine.specs.Cycle.{cycle};
 ghost use Rattle.written_machine.specs.Passing.{Leads};

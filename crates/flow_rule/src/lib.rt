@@ -1,8 +1,8 @@
-//! The rule of flow over a module's text, and its laws: a text that the rule accepts is even for every two data.
+//! The rule of flow over a module's text: every text has one verdict.
 #![tactic(auto)]
 
 ghost use Rattle.flow_rule.specs.Absorbs.{ArmsRest};
-ghost use Rattle.flow_rule.specs.Laws.{Evenness, Released, Kept, SomeVerdict, OneVerdict};
+ghost use Rattle.flow_rule.specs.Laws.{SomeVerdict, OneVerdict};
 
 use pc_access::Kind;
 use sm_words::Width;
@@ -70,18 +70,6 @@ pub enum Verdict {
         value: u16,
     },
 }
-
-/// Where the verdict is yes, whatever the certificates, no list of calls tells two data apart, under any key.
-pub fn evenness()
-    ensures even { Evenness }
-{}
-
-/// Where the verdict is yes under terms, no list of calls tells two data apart that agree on the public words, but by
-/// the answers; and each call leaves data that agree on them, whatever its answers are.
-pub fn released()
-    ensures even { Released }
-    ensures kept { Kept }
-{}
 
 /// Where a branch has no violation under a state, its arms do the same under every state that this one absorbs.
 pub fn arms_rest()

@@ -218,6 +218,26 @@ fn balanced_rows() -> &'static [(&'static [u16], &'static [u8], Verdict)] {
                 value: 0x031e,
             },
         ),
+        // The jump at 0x030c, in the arm that is met first, goes past this join.
+        (
+            &BALANCED,
+            b"0304 0317 6",
+            Verdict::No {
+                addr: 0x0304,
+                reason: Reason::Arm,
+                value: 0x030c,
+            },
+        ),
+        // The other arm begins past this join.
+        (
+            &BALANCED,
+            b"0304 0306 6",
+            Verdict::No {
+                addr: 0x0304,
+                reason: Reason::Arm,
+                value: 0x030e,
+            },
+        ),
         // A certificate for another branch.
         (
             &BALANCED,

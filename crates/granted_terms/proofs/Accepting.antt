@@ -15,7 +15,7 @@ use Rattle.flow_rule.specs.Verdict.{Decided, flow_step, most_points, start_under
 use Rattle.flow_rule.specs.Violations.{AmongThem}
 use Rattle.flow_rule.specs.declared.Verdict.{Verdict}
 use Rattle.flow_rule.specs.declared.Verdict.TheVariants.{Yes, No}
-use Rattle.flow_rule.proofs.Telling.{on_list}
+use Rattle.flow_laws.proofs.Telling.{on_list}
 use Rattle.granted_terms.proofs.Covering.{Held, EachHeld, held_lower, each_both, EachRests, Settled, settled, all_in_held, distinct_iterations, no_more}
 use Rattle.granted_terms.proofs.Forgiven.{Forgiven, EachForgiven, Lower, EachLower, Follows}
 use Rattle.granted_terms.proofs.Starts.{start_lower}

@@ -3,7 +3,7 @@ use Rattle.std.proofs.Common.{◌≡◌, ℕ, List, [], ◌∷◌, true, false}
 use Rattle.flow_rule.specs.Terms.{Terms}
 use Rattle.flow_rule.specs.declared.Reason.TheVariants.{SecretAtExit, DataAtExit}
 use Rattle.flow_rule.specs.Iterations.{PointState, RuleViolation, FlowStep}
-use Rattle.flow_rule.proofs.Telling.{on_list}
+use Rattle.flow_laws.proofs.Telling.{on_list}
 use Rattle.flow_rule.proofs.Absorbing.{AbsorbsEach}
 
 -- no answer that the others have not, and each of their public words

@@ -9,7 +9,7 @@ use Rattle.flow_rule.specs.Arms.{VerdictUnder}
 use Rattle.flow_rule.specs.Terms.{Terms}
 use Rattle.flow_rule.specs.declared.Verdict.{Verdict}
 use Rattle.flow_rule.specs.declared.Verdict.TheVariants.{Yes, No}
-use Rattle.flow_rule.proofs.Telling.{on_list}
+use Rattle.flow_laws.proofs.Telling.{on_list}
 use Rattle.terms_file.specs.declared.Term.{Term}
 use Rattle.terms_file.specs.declared.Term.TheVariants.{Answer, Public}
 use Rattle.cli_calls.specs.Offers.{told_by, is_register, is_word, names, standing_terms, IsOffered}

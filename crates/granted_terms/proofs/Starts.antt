@@ -13,7 +13,7 @@ use Rattle.flow_rule.specs.Terms.{Terms}
 use Rattle.flow_rule.specs.Values.{set_each}
 use Rattle.flow_rule.specs.Verdict.{known_words, no_secret, start_point, start_under}
 use Rattle.flow_rule.proofs.Absorbing.{AbsorbsVal, AbsorbsEach}
-use Rattle.flow_rule.proofs.Telling.{on_list}
+use Rattle.flow_laws.proofs.Telling.{on_list}
 use Rattle.granted_terms.proofs.Forgiven.{Lower}
 use Rattle.granted_terms.proofs.Lowering.{each_own}
 use Rattle.granted_terms.proofs.StepsEnds.{long_each}

@@ -14,7 +14,7 @@ use Rattle.flow_rule.specs.Does.{word_no}
 use Rattle.flow_rule.specs.Violations.{violation, violation_if, exit_violations, word_violations}
 use Rattle.flow_rule.specs.Going.{closes, exit_step}
 use Rattle.flow_rule.proofs.Plans.{none_left, none_right, none_if}
-use Rattle.flow_rule.proofs.Telling.{on_list}
+use Rattle.flow_laws.proofs.Telling.{on_list}
 use Rattle.flow_rule.proofs.Absorbing.{AbsorbsVal, AbsorbsEach, nth_keeps}
 use Rattle.granted_terms.proofs.Forgiven.{Forgiven, ByAnswer, ByWord, EachForgiven, Follows}
 

@@ -5,7 +5,7 @@ use Rattle.cpu_step.specs.Asked.{asks}
 use Rattle.cpu_step.specs.Fetched.{insn_in}
 use Rattle.cpu_step.specs.Lone.{Lone, job_of, Job, Doing, Waits, Closes, Leaves, Breaks, Does, doing, doing_by, next_insn, lone_does, lone_step_by, lone_read, lone_who, lone_byte, is_alone}
 use Rattle.insn_decode.specs.declared.insn.Insn.{Insn}
-use Rattle.isolation.specs.Calls.{rest_of}
+use Rattle.run_laws.specs.Frames.{rest_of}
 use Rattle.mod_layout.specs.Table.{size_of, place_of, holds}
 use Rattle.mod_layout.specs.declared.Module.{Module}
 use Rattle.mod_layout.specs.declared.Place.{Place}
@@ -29,12 +29,12 @@ use Rattle.cpu_step.specs.LoneLaws.{GoesOn}
 use Rattle.isolation.proofs.Evenly.{Evenly, Together, next_together}
 use Rattle.isolation.proofs.Hide.{veil_core, hide_by, hide}
 use Rattle.isolation.proofs.Inside.{Moves, may_some, did_act}
-use Rattle.isolation.proofs.Rights.{own_id}
+use Rattle.run_laws.proofs.Rights.{own_id}
 use Rattle.isolation.proofs.Relation.{run_by, run_of, Secret, same_secret, Keeps, Twins, Alike, times, backup_of, lone_of, IsOpen, Open as IsOpenNow, Ready, Outer, outer_alike, BothActive, both_active}
 use Rattle.isolation.proofs.Settled.{close_is, arrive_inside_stays}
-use Rattle.isolation.proofs.Gie.{effect_gie}
+use Rattle.run_laws.proofs.Gie.{effect_gie}
 use Rattle.isolation.proofs.Settling.{arrive_hidden, due_hidden}
-use Rattle.isolation.proofs.Cases.{turn_as, interrupted}
+use Rattle.run_laws.proofs.Cases.{turn_as, interrupted}
 
 abbrev pub moved : State → Lone → List ℕ → State
 moved s l' memory = record s { core = l'.core; memory = memory; phase = Run l'.rest; after = closing_after l'.closing }

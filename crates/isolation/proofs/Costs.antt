@@ -2,7 +2,8 @@
 use Rattle.std.proofs.Common.{◌≡◌, ◌≢◌, ℕ, zero, suc, ◌+◌, ◌<◌, ◌≤◌, List, [], ◌∷◌, ◌++◌, refl, sym, ap, ◌∙◌, subst, arith, Bool, true, false, cond, ◌&&◌, ◌==◌, Option, Some, None, is_none}
 use Rattle.cpu_step.specs.Lone.{Lone, Doing, Closes, Leaves, Breaks, doing, lone_after, outcome, job_of, Job, CallEnd, Broken, Running, later, Waits, Does, lone_does, lone_step, lone_step_by, in_time, at_once}
 use Rattle.image_text.specs.Image.{Image, IsImage}
-use Rattle.isolation.specs.Calls.{entry_job, entry_lone, works, worked, NoEnd, NotBroken, Away, back_from, notes, away, backup_of, run_by, lone_of, find_held, Enters, EndsCall, Takes}
+use Rattle.isolation.specs.Calls.{entry_job, entry_lone, works, worked, NotBroken, Away, back_from, notes, away, backup_of, run_by, lone_of, find_held, Takes}
+use Rattle.run_laws.specs.Events.{NoEnd, Enters, EndsCall}
 use Rattle.mod_layout.specs.Table.{module_of}
 use Rattle.mod_layout.specs.declared.Module.{Module}
 use Rattle.pc_access.specs.Rights.{is_id}
@@ -16,18 +17,18 @@ use Rattle.written_machine.specs.Cycle.{Step, told, unsettled, due, ticked, sett
 use Rattle.written_machine.specs.Peers.{section}
 use Rattle.written_machine.specs.State.{State}
 use Rattle.written_machine.specs.View.{at}
-use Rattle.isolation.proofs.Tame.{ticked_active, cycle_number, runs_so_far, cycle_ends, idle_ends}
+use Rattle.run_laws.proofs.Tame.{ticked_active, cycle_number, runs_so_far, cycle_ends, idle_ends}
 use Rattle.isolation.proofs.Active.{active_some, arrives_at}
 use Rattle.isolation.proofs.Ending.{settled_as, settled_doing}
-use Rattle.isolation.proofs.Fine.{Fine, settled_fine}
+use Rattle.run_laws.proofs.Fine.{Fine, settled_fine}
 use Rattle.isolation.proofs.Follow.{own_step, job, works_is, Follows, Now, ticked_follows, settle_follows, active_doing, settled_no_end, follows_on, more_by, never_breaks, entry_text, entry_open, entry_follows, fine_from}
-use Rattle.isolation.proofs.Rights.{own_id}
+use Rattle.run_laws.proofs.Rights.{own_id}
 use Rattle.isolation.proofs.Relation.{IsOpen, backup_of, lone_of}
 use Rattle.isolation.proofs.Still.{Still, still_notes, notes_more, turn_still, Told, settle_told}
 use Rattle.isolation.proofs.Turns.{held_turn}
 use Rattle.cpu_step.proofs.LoneLemmas.{after_step}
-use Rattle.isolation.proofs.Ways.{sent_tells}
-use Rattle.isolation.proofs.Cases.{interrupted}
+use Rattle.run_laws.proofs.Ways.{sent_tells}
+use Rattle.run_laws.proofs.Cases.{interrupted}
 
 -- while it is active all the cycles so far are its own or between a hide and its resume; while it is held, those up to the hide
 abbrev pub Balance : Bool → ℕ → Away → ℕ → Type 0

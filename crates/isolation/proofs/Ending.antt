@@ -3,7 +3,8 @@ use Rattle.std.proofs.Common.{◌≡◌, ◌⊎◌, inl, inr, ℕ, zero, suc, �
 use Rattle.attest.specs.Done.{own_of}
 use Rattle.cpu_step.specs.Lone.{Doing, Waits, Closes, Leaves, Does, doing, doing_by, next_insn, job_of, is_answer, blank}
 use Rattle.insn_decode.specs.declared.insn.Insn.{Insn}
-use Rattle.isolation.specs.Calls.{EndsCall, rest_of}
+use Rattle.run_laws.specs.Events.{EndsCall}
+use Rattle.run_laws.specs.Frames.{rest_of}
 use Rattle.mod_layout.specs.Table.{size_of, holds, without}
 use Rattle.mod_layout.specs.declared.Module.{Module}
 use Rattle.pc_access.specs.Rights.{is_id}
@@ -30,7 +31,7 @@ use Rattle.isolation.proofs.Hide.{veil_if, veil_frames, hide_by, hide}
 use Rattle.isolation.proofs.Relation.{times, none_found, backup_of, run_by, lone_of, IsOpen, same_secret, Open as IsOpenNow, Keeps, Twins, Ready, BothActive, both_active, twins_stay, seen_veiled, seen_active}
 use Rattle.isolation.proofs.Settled.{settle_stays}
 use Rattle.isolation.proofs.Settling.{hide_settled, settle_veiled}
-use Rattle.isolation.proofs.Ways.{or_unsettled}
+use Rattle.run_laws.proofs.Ways.{or_unsettled}
 
 -- frames that are not the module's hide nothing
 frame_by : (c : Bool) (b : Backup) (n : ℕ) → one_if c + n ≡ 0 → veil_if c b ≡ b

@@ -1,7 +1,7 @@
 -- Where a module is entered, and that it is in the table then.
 use Rattle.std.proofs.Common.{◌≡◌, ◌⊎◌, inl, inr, ⊎_elim, ℕ, ◌+◌, List, [], ◌∷◌, ◌++◌, refl, ap, ◌∙◌, Bool, true, false, cond, ◌||◌, ◌==◌, Option, Some, None, is_some, arith}
 use Rattle.image_text.specs.Image.{Image}
-use Rattle.isolation.specs.Calls.{Enters}
+use Rattle.run_laws.specs.Events.{Enters}
 use Rattle.mod_layout.proofs.Found.{place_by, find_module}
 use Rattle.mod_layout.specs.Table.{place_in, place_of, module_of, holds}
 use Rattle.mod_layout.specs.declared.Module.{Module}
@@ -18,7 +18,7 @@ use Rattle.written_machine.proofs.Stops.{cycle_by}
 use Rattle.written_machine.specs.Cycle.{Step, told, pc_of, settle, ticked, arrive_inside, act, fetch, turn, move, cycle}
 use Rattle.written_machine.specs.State.{State}
 use Rattle.written_machine.specs.View.{at}
-use Rattle.isolation.proofs.Ways.{turn_tells, perform_tells, sent_tells, EachAct, EachTurn, each_turn, settle_ways}
+use Rattle.run_laws.proofs.Ways.{turn_tells, perform_tells, sent_tells, EachAct, EachTurn, each_turn, settle_ways}
 
 -- ---- no event of these enters a module
 module _ (m from : ℕ) where

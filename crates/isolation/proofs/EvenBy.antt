@@ -4,7 +4,7 @@ use Rattle.cpu_step.specs.Lone.{starts, Lone, outcome, job_of, Job, Entrance, Ca
 use Rattle.mod_layout.specs.declared.Module.{Module}
 use Rattle.std.proofs.lemmas.Bool.Decides.{nat_tests}
 use Rattle.cpu_step.proofs.Alike.{ends_then}
-use Rattle.isolation.proofs.Each.{Each}
+use Rattle.run_laws.proofs.Each.{Each}
 use Rattle.std.proofs.lemmas.List.Elements.{All-nil, All-cons}
 use Rattle.std.specs.Prelude.{All}
 

@@ -3,7 +3,7 @@ use Rattle.std.proofs.Common.{◌≡◌, ℕ, zero, suc, List, [], arith}
 use Rattle.cpu_step.specs.Lone.{Job, Lone, CallEnd, Exit, Closing, Broken, Running, later, Doing, Waits, Closes, Leaves, Breaks, Does, doing, lone_does, at_once, in_time, outcome, blank}
 use Rattle.mod_layout.specs.declared.Module.{Module}
 use Rattle.cpu_step.proofs.Alike.{ends_then}
-use Rattle.isolation.proofs.Each.{Each}
+use Rattle.run_laws.proofs.Each.{Each}
 use Rattle.isolation.proofs.EvenBy.{Call_of, EvenBy, IsCall, AlwaysEvenBy}
 
 -- from here on the two calls, and all that come after, are even

@@ -3,7 +3,8 @@ use Rattle.std.proofs.Common.{◌≡◌, ◌≢◌, ℕ, ◌+◌, List, [], ◌�
 use Rattle.cpu_step.specs.Lone.{Job, Lone, Doing, Closes, Leaves, Breaks, doing, lone_step_by, lone_step, job_of, CallEnd, Exit, Closing, Broken, Running, later, Waits, Does, lone_does, lone_after, in_time, outcome, next_insn, doing_by}
 use Rattle.image_text.specs.Image.{Image, IsImage}
 use Rattle.insn_decode.specs.declared.insn.Insn.{Insn}
-use Rattle.isolation.specs.Calls.{entry_state, entry_job, entry_lone, works, NoEnd, worked, Enters, NotBroken, Stands, backup_of, run_by}
+use Rattle.isolation.specs.Calls.{entry_state, entry_job, entry_lone, works, worked, NotBroken, Stands, backup_of, run_by}
+use Rattle.run_laws.specs.Events.{NoEnd, Enters}
 use Rattle.mod_layout.specs.Table.{place_of, module_of}
 use Rattle.mod_layout.specs.declared.Module.{Module}
 use Rattle.mod_layout.specs.declared.Place.TheVariants.{Entry}
@@ -20,21 +21,22 @@ use Rattle.written_machine.specs.Cycle.{Step, told, due, ticked, settle, turn, c
 use Rattle.written_machine.specs.Peers.{section}
 use Rattle.written_machine.specs.State.{State}
 use Rattle.written_machine.specs.View.{at}
-use Rattle.isolation.proofs.Tame.{settled_key, key_at, move_later}
+use Rattle.run_laws.proofs.Tame.{settled_key, key_at, move_later}
 use Rattle.isolation.proofs.Active.{active_some, moved, moved_run, moved_keeps, turn_moves, arrives_at}
 use Rattle.isolation.proofs.Ending.{settled_as, settled_doing}
-use Rattle.isolation.proofs.Fine.{Fine, settled_fine, fine_at}
+use Rattle.run_laws.proofs.Fine.{Fine, settled_fine, fine_at}
 use Rattle.isolation.proofs.Inside.{Moves}
-use Rattle.isolation.proofs.Rights.{own_id}
+use Rattle.run_laws.proofs.Rights.{own_id}
 use Rattle.isolation.proofs.Relation.{find_held, backup_of, run_by, run_of, lone_of, IsOpen, Keeps, Stays}
 use Rattle.isolation.proofs.Settled.{settle_stays, passing_stays, ticked_stays, arrive_inside_stays}
-use Rattle.isolation.proofs.Turns.{held_turn, times_none, entry_free, at_entry, entered, entered_keeps, entered_moves, start, start_doing}
-use Rattle.isolation.proofs.Ways.{counted_holds}
+use Rattle.isolation.proofs.Turns.{held_turn, at_entry, entered, entered_keeps, entered_moves, start, start_doing}
+use Rattle.run_laws.proofs.Frames.{times_none, entry_free}
+use Rattle.run_laws.proofs.Ways.{counted_holds}
 use Rattle.cpu_step.proofs.LoneLemmas.{after_step}
 use Rattle.isolation.proofs.EvenBy.{cut, outcome_cut}
 use Rattle.isolation.proofs.Entering.{Enters_now, cycle_entering}
-use Rattle.isolation.proofs.Tables.{sound_from}
-use Rattle.isolation.proofs.Cases.{interrupted}
+use Rattle.run_laws.proofs.Tables.{sound_from}
+use Rattle.run_laws.proofs.Cases.{interrupted}
 
 pub works_is : (m : ℕ) (o : Option Stop) (s : State) → s.stop ≡ o → works m s ≡ (let u = settle (ticked s) in is_none o && is_id m u.state.active && is_none (due u.state))
 works_is m o s e = ap (λ x. is_none x && is_id m (settle (ticked s)).state.active && is_none (due (settle (ticked s)).state)) e

@@ -26,10 +26,10 @@ use Rattle.tracer.specs.declared.Event.{Event}
 use Rattle.written_machine.specs.Cycle.{Step, pc_of, byte_of, vector_in, push_both, pushes, plain_if, arrive_outside, at_home, home_word, is_home, who_of, port_of, perform, attempt, returned_by, reti_by, act_on, act_home, act_first, act, unless}
 use Rattle.written_machine.specs.Ports.{take_reads, put_writes}
 use Rattle.written_machine.specs.State.{State}
-use Rattle.isolation.proofs.Bytes.{Out, get_cleared}
-use Rattle.isolation.proofs.Each.{Each}
-use Rattle.isolation.proofs.Ports.{OutBy, OutAccess, take_reads_veiled, put_writes_veiled}
-use Rattle.isolation.proofs.Rights.{Sound, reads_out, writes_out, out_place_next}
+use Rattle.run_laws.proofs.Bytes.{Out, get_cleared}
+use Rattle.run_laws.proofs.Each.{Each}
+use Rattle.run_laws.proofs.Ports.{OutBy, OutAccess, take_reads_veiled, put_writes_veiled}
+use Rattle.run_laws.proofs.Rights.{Sound, reads_out, writes_out, out_place_next}
 
 -- of a hidden core GIE alone is seen
 abbrev pub veil_core : List ℕ → List ℕ

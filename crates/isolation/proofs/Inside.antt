@@ -34,9 +34,9 @@ use Rattle.written_machine.specs.Ports.{Port, read_in, read_byte, read_width, wr
 use Rattle.written_machine.specs.State.{State}
 use Rattle.std.specs.Option.{option_or}
 use Rattle.pc_access.specs.declared.Kind.{Kind}
-use Rattle.isolation.proofs.Bytes.{Out, get_part, part_set_in, part_set_out, cleared_set}
-use Rattle.isolation.proofs.Each.{Each}
-use Rattle.isolation.proofs.Rights.{Sound, own_id, holds_in, each_read, each_write, even_of}
+use Rattle.run_laws.proofs.Bytes.{Out, get_part, part_set_in, part_set_out, cleared_set}
+use Rattle.run_laws.proofs.Each.{Each}
+use Rattle.run_laws.proofs.Rights.{Sound, own_id, holds_in, each_read, each_write, even_of}
 
 -- a step of the active module
 pub record Moves (own : Module) (s : State) (l' : Lone) (u : Step) : Type 0 where

@@ -19,20 +19,17 @@ use Rattle.written_machine.specs.Cycle.{Step, stopped, denied, pc_of, push_both,
 use Rattle.written_machine.specs.Peers.{section}
 use Rattle.written_machine.specs.Ports.{take_reads}
 use Rattle.written_machine.specs.State.{State}
+use Rattle.run_laws.proofs.Frames.{times_plain}
 use Rattle.isolation.proofs.Hide.{veil, veil_step, hide_by, arrive_outside_veiled, act_veiled}
-use Rattle.isolation.proofs.Ports.{put_writes_part, take_reads_memory}
+use Rattle.run_laws.proofs.Ports.{put_writes_part, take_reads_memory}
 use Rattle.isolation.proofs.Relation.{find_held, times, run_by, Keeps, Stays, Outer}
-use Rattle.isolation.proofs.Rights.{Sound, writes_out, text_writes_out}
-use Rattle.isolation.proofs.Tables.{sound_after}
-use Rattle.isolation.proofs.Ways.{attempt_ways, act_with, outside_ways}
+use Rattle.run_laws.proofs.Rights.{Sound, writes_out, text_writes_out}
+use Rattle.run_laws.proofs.Tables.{sound_after}
+use Rattle.run_laws.proofs.Ways.{attempt_ways, act_with, outside_ways}
 
 found_plain : (m : ℕ) (fs : List Frame) → find_held m (plain_if fs) ≡ find_held m fs
 found_plain m [] = refl
 found_plain m (f ∷ fs) = refl
-
-pub times_plain : (m : ℕ) (fs : List Frame) → times m (plain_if fs) ≡ times m fs
-times_plain m [] = refl
-times_plain m (f ∷ fs) = refl
 
 module _ (m : ℕ) (own : Module) (key text : List ℕ) where
   -- a step that leaves the module's data and text, and adds and takes off no frame of a module

@@ -1,7 +1,7 @@
 -- The relation between two runs, and what keeps it.
 use Rattle.std.proofs.Common.{◌≡◌, ◌⊎◌, inr, ⊎_elim, ℕ, ◌+◌, ◌≤◌, List, [], ◌∷◌, refl, sym, ap, ◌∙◌, subst, arith, Bool, true, false, ◌==◌, Option, Some, None}
 use Rattle.cpu_step.specs.Lone.{Doing, Closes, Leaves, doing, job_of}
-use Rattle.isolation.specs.Calls.{rest_of}
+use Rattle.run_laws.specs.Frames.{rest_of}
 use Rattle.mod_layout.specs.declared.Module.{Module}
 use Rattle.pc_access.specs.Rights.{is_id}
 use Rattle.reg_backup.specs.Saved.{closing_after, is_close}
@@ -13,11 +13,12 @@ use Rattle.sm_words.specs.Sums.{one_if}
 use Rattle.written_machine.specs.Cycle.{Step}
 use Rattle.written_machine.specs.Peers.{section}
 use Rattle.written_machine.specs.State.{State}
-pub use Rattle.isolation.specs.Calls.{found_if, find_held, times, backup_of, run_by, run_of, lone_of}
+pub use Rattle.isolation.specs.Calls.{found_if, find_held, backup_of, run_by, run_of, lone_of}
+pub use Rattle.run_laws.specs.Frames.{times}
 use Rattle.isolation.proofs.EvenBy.{AlwaysEvenBy}
 use Rattle.isolation.proofs.Evenly.{Evenly}
 use Rattle.isolation.proofs.Hide.{veil, hide_by, hide}
-use Rattle.isolation.proofs.Rights.{Sound}
+use Rattle.run_laws.proofs.Rights.{Sound}
 
 -- a module in no frame is not found
 found_by : (c : Bool) (b : Backup) (o : Option Backup) (n : ℕ) → one_if c + n ≡ 0 → o ≡ None → found_if c b o ≡ None

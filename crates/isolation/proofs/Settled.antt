@@ -15,12 +15,12 @@ use Rattle.sm_words.specs.Sums.{one_if}
 use Rattle.std.proofs.lemmas.Bool.Decides.{nat_tests}
 use Rattle.written_machine.specs.Cycle.{ticked, close_of, leave_if, settle, arrive_inside}
 use Rattle.written_machine.specs.State.{State}
-use Rattle.isolation.proofs.Bytes.{part_cleared}
+use Rattle.run_laws.proofs.Bytes.{part_cleared}
 use Rattle.isolation.proofs.Outside.{light, stays_by}
 use Rattle.isolation.proofs.Relation.{find_held, found_if, times, backup_of, run_by, Keeps, Stays, stays_self}
-use Rattle.isolation.proofs.Tables.{sound_without}
-use Rattle.isolation.proofs.Ways.{settle_ways, or_unsettled}
-use Rattle.isolation.proofs.Cases.{interrupted}
+use Rattle.run_laws.proofs.Tables.{sound_without}
+use Rattle.run_laws.proofs.Ways.{settle_ways, or_unsettled}
+use Rattle.run_laws.proofs.Cases.{interrupted}
 
 pub close_is : (c : Bool) → is_close (closing_after c) ≡ c
 close_is true = refl

@@ -19,12 +19,12 @@ use Rattle.sm_words.specs.Words.{reg}
 use Rattle.tracer.specs.declared.Event.{Event}
 use Rattle.written_machine.specs.Cycle.{Settled, unsettled, pc_of, ticked, resume_from, close_of, in_text, leave_if, settle_by, settle_in, settle, due, arrive_inside, enter_at, enter}
 use Rattle.written_machine.specs.State.{State}
-use Rattle.isolation.proofs.Tame.{ticked_active}
-use Rattle.isolation.proofs.Bytes.{cleared_comm}
+use Rattle.run_laws.proofs.Tame.{ticked_active}
+use Rattle.run_laws.proofs.Bytes.{cleared_comm}
 use Rattle.isolation.proofs.Hide.{veil_core, veil_if, veil_frames, veil, veil_step, hide_by, hide, length_veiled, vector_cleared}
-use Rattle.isolation.proofs.Rights.{Sound}
-use Rattle.isolation.proofs.Cases.{interrupted}
-use Rattle.isolation.proofs.Ways.{or_unsettled}
+use Rattle.run_laws.proofs.Rights.{Sound}
+use Rattle.run_laws.proofs.Cases.{interrupted}
+use Rattle.run_laws.proofs.Ways.{or_unsettled}
 
 abbrev pub hide_settled : ℕ → Module → Settled → Settled
 hide_settled m own u = record u { state = hide m own u.state }

@@ -1,7 +1,8 @@
 -- Two modules that answer, in one image: the runs are alike while the answers of both agree, by an image between the two.
 use Rattle.std.proofs.Common.{◌≡◌, ◌≢◌, ⊎_elim, ℕ, zero, suc, List, sym, ap, ◌∙◌, subst, arith, true, false, ◌==◌, Option, All}
 use Rattle.image_text.specs.Image.{Image}
-use Rattle.isolation.specs.Calls.{EndsCall, AnswersAgree}
+use Rattle.run_laws.specs.Events.{EndsCall}
+use Rattle.isolation.specs.Calls.{AnswersAgree}
 use Rattle.pc_access.specs.Rights.{is_id}
 use Rattle.schedule_file.specs.declared.Entry.{Entry as Scheduled}
 use Rattle.sm_words.specs.Words.{reg}
@@ -13,7 +14,7 @@ use Rattle.written_machine.specs.Trace.{trace}
 use Rattle.written_machine.specs.View.{at, is_hidden_by, view_of}
 use Rattle.written_machine.specs.declared.Hidden.TheVariants.{All as AllHidden, Only}
 use Rattle.isolation.proofs.Active.{active_some}
-use Rattle.isolation.proofs.Tame.{ends_active}
+use Rattle.run_laws.proofs.Tame.{ends_active}
 use Rattle.isolation.proofs.Telling.{seen_active, seen_core, all_seen, traces_while}
 use Rattle.isolation.proofs.Whole.{views_while, events_while}
 

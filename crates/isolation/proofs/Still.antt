@@ -7,7 +7,7 @@ use Rattle.std.proofs.lemmas.Bool.Decides.{nat_tests}
 use Rattle.tracer.specs.declared.Event.{Event}
 use Rattle.written_machine.specs.Cycle.{Step, pc_of, settle, arrive_inside, turn}
 use Rattle.written_machine.specs.State.{State}
-use Rattle.isolation.proofs.Ways.{perform_tells, EachAct, EachTurn, each_turn, settle_ways}
+use Rattle.run_laws.proofs.Ways.{perform_tells, EachAct, EachTurn, each_turn, settle_ways}
 
 module _ (m : ℕ) where
   abbrev pub Still : List Event → Type 0

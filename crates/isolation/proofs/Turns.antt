@@ -2,7 +2,8 @@
 use Rattle.std.proofs.Common.{◌≡◌, ◌≢◌, ℕ, zero, suc, ◌+◌, ◌-◌, ◌<◌, List, [], ◌∷◌, refl, sym, ap, ◌∙◌, subst, arith, Bool, true, false, ◌||◌, ◌==◌, Option, Some, None}
 use Rattle.cpu_step.specs.Lone.{Lone, doing, doing_by, next_insn, lone_does, job_of}
 use Rattle.insn_decode.specs.declared.insn.Insn.{Insn}
-use Rattle.isolation.specs.Calls.{rest_of}
+use Rattle.run_laws.specs.Frames.{rest_of}
+use Rattle.run_laws.proofs.Frames.{times_none, check, right_fetch, entry_free}
 use Rattle.mod_layout.specs.Table.{place_of, holds}
 use Rattle.mod_layout.specs.declared.Module.{Module}
 use Rattle.mod_layout.specs.declared.Place.{Place}
@@ -26,7 +27,6 @@ use Rattle.written_machine.specs.Cycle.{Step, quiet, told, denied, pc_of, due, a
 use Rattle.written_machine.specs.Passing.{asleep}
 use Rattle.written_machine.specs.Peers.{section}
 use Rattle.written_machine.specs.State.{State}
-use Rattle.pc_access.proofs.RightLemmas.{refused_not}
 use Rattle.isolation.proofs.Active.{arrived_none, does_gie, moves_alike}
 use Rattle.isolation.proofs.EvenBy.{begins, AlwaysEvenBy}
 use Rattle.isolation.proofs.Evenly.{Evenly, Together, next_together}
@@ -34,32 +34,15 @@ use Rattle.isolation.proofs.Hide.{veil, veil_step, veil_core, hide_by, held_ids_
 use Rattle.isolation.proofs.Inside.{Moves, did_act}
 use Rattle.isolation.proofs.Outside.{Light, light, outer_by, stays_by, arrived_active, arrive_outside_outer, act_outer, act_active}
 use Rattle.isolation.proofs.Relation.{find_held, times, none_found, run_by, run_of, same_secret, Keeps, Ready, Stays, stays_self, Alike, Outer, outer_alike, seen_veiled, seen_active}
-use Rattle.isolation.proofs.Rights.{own_id, holds_in}
+use Rattle.run_laws.proofs.Rights.{own_id, holds_in}
 use Rattle.isolation.proofs.Settled.{arrive_inside_stays}
 use Rattle.isolation.proofs.Settling.{arrive_hidden, due_hidden, enter_veiled}
-use Rattle.isolation.proofs.Cases.{turn_at, turn_unless, turn_is, turn_as, interrupted}
-use Rattle.isolation.proofs.Ways.{begin_ways, enter_ways, turn_ways}
+use Rattle.run_laws.proofs.Cases.{turn_at, turn_unless, turn_is, turn_as, interrupted}
+use Rattle.run_laws.proofs.Ways.{begin_ways, enter_ways, turn_ways}
 
 -- ---- a fetch that is allowed
 fetch_data : (m : ℕ) (p : Place) (active : Option ℕ) (held : List ℕ) (a : ℕ) → right_at p active held Fetch a ≡ None → p ≢ Data m
 fetch_data m p active held a e d = let e' = subst (λ q. right_at q active held Fetch a ≡ None) d e in cc
-
-pub times_none : (m : ℕ) (fs : List Frame) → is_held m (held_ids fs) ≡ false → times m fs ≡ 0
-times_none m [] e = refl
-times_none m (Plain ∷ fs) e = times_none m fs e
-times_none m (Held b ∷ fs) e = by (b.module == m) (is_held m (held_ids fs)) (times m fs) e (λ h. times_none m fs h)
-  where
-    by : (c x : Bool) (n : ℕ) → (c || x) ≡ false → (x ≡ false → n ≡ 0) → one_if c + n ≡ 0
-    by true x n e h = cc
-    by false x n e h = let z = h e in omega arith
-
--- the check of a fetch
-abbrev pub check : State → Option Denied
-check s = right s.table s.active (held_ids s.frames) (fetch s)
-
-pub right_fetch : (s : State) → check s ≡ None → right_at (place_of s.table (pc_of s)) s.active (held_ids s.frames) Fetch (pc_of s) ≡ None
-unfolding right
-right_fetch s e = e
 
 pub begin_by : (left : ℕ) (s : State) (d : Option Denied) → check s ≡ d → begin left s ≡ unless d s (let e = enter left s in told e.events (act e.state))
 unfolding begin
@@ -75,11 +58,6 @@ enters_it m left s n =
 entered_is : (m left : ℕ) (s : State) → place_of s.table (pc_of s) ≡ Entry m → s.active ≡ None → enter left s ≡ record { state = record s { active = Some m; caller = left; after = Next }; events = Event.Enter m left ∷ [] }
 unfolding enter
 entered_is m left s p o = ap (λ x. enter_at x s.active left s) p ∙ ap (λ x. enter_at (Entry m) x left s) o
-
-pub entry_free : (m : ℕ) (s : State) → check s ≡ None → place_of s.table (pc_of s) ≡ Entry m → is_held m (held_ids s.frames) ≡ false
-entry_free m s e p =
-    let e' = subst (λ q. right_at q s.active (held_ids s.frames) Fetch (pc_of s) ≡ None) p (right_fetch s e) in
-    refused_not (is_held m (held_ids s.frames)) Rule.Reenter (pc_of s) m e'
 
 module _ (m : ℕ) (own : Module) (key text : List ℕ) where
   -- ---- unary: what one run does

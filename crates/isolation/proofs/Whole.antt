@@ -3,7 +3,8 @@ use Rattle.std.proofs.Common.{◌≡◌, ◌≢◌, inl, inr, ⊎_elim, ℕ, zer
 use Rattle.cpu_step.specs.Lone.{is_answer, blank}
 use Rattle.devices.specs.Devices.{Devices}
 use Rattle.image_text.specs.Image.{Image, IsImage}
-use Rattle.isolation.specs.Calls.{EndsCall, ends_call, AnswersAgree}
+use Rattle.run_laws.specs.Events.{EndsCall, ends_call}
+use Rattle.isolation.specs.Calls.{AnswersAgree}
 use Rattle.mod_layout.proofs.Found.{ends_of, share_sym}
 use Rattle.mod_layout.proofs.TableLemmas.{apart_of}
 use Rattle.mod_layout.specs.Table.{Table, size_of, module_of, holds, place_of}
@@ -34,17 +35,17 @@ use mathlib.Core.Path.{fun_ext}
 use Rattle.cpu_step.proofs.Blank.{no_answer_differs}
 use Rattle.isolation.proofs.Active.{active_turn}
 use Rattle.isolation.proofs.EvenBy.{each_bound}
-use Rattle.isolation.proofs.Bytes.{Out, get_cleared, length_cleared, get_in_cleared, part_cleared}
+use Rattle.run_laws.proofs.Bytes.{Out, get_cleared, length_cleared, get_in_cleared, part_cleared}
 use Rattle.isolation.proofs.Ending.{Settles, SettlesBut, outside_settles, inside_settles}
-use Rattle.isolation.proofs.Fine.{Fine, FineSettled, settled_fine, fine_at}
+use Rattle.run_laws.proofs.Fine.{Fine, FineSettled, settled_fine, fine_at}
 use Rattle.isolation.proofs.Hide.{veil_if, veil_frames, veil_core, hide_by, hide}
 use Rattle.isolation.proofs.Relation.{Twins, Ready, Related, Alike, twins_stay_before, hidden_same, seen, related_seen, seen_veiled}
-use Rattle.isolation.proofs.Rights.{Sound, out_place, holds_in}
+use Rattle.run_laws.proofs.Rights.{Sound, out_place, holds_in}
 use Rattle.isolation.proofs.Settled.{passing_stays, ticked_stays}
 use Rattle.isolation.proofs.Settling.{ticked_hidden, gie_hidden}
-use Rattle.isolation.proofs.Tables.{sound_from}
+use Rattle.run_laws.proofs.Tables.{sound_from}
 use Rattle.isolation.proofs.Turns.{outside_turn}
-use Rattle.isolation.proofs.Tame.{ticked_active, settled_ends, move_filter, cycle_ends}
+use Rattle.run_laws.proofs.Tame.{ticked_active, settled_ends, move_filter, cycle_ends}
 
 module _ (m : ℕ) (own : Module) (key text answers : List ℕ) (answers_ok : list_all is_answer answers ≡ true) where
   ticked_twins : (a b : State) → Twins m own key text answers a b → Twins m own key text answers (ticked a) (ticked b)

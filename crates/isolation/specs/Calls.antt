@@ -1,71 +1,25 @@
 -- What a run shows of one call of a module, from its entry to its end, and of its end in two runs.
-use Rattle.std.specs.Prelude.{◌≡◌, ◌≢◌, ◌⊎◌, ℕ, zero, suc, ◌+◌, ◌-◌, ◌<◌, ◌≤◌, List, [], ◌∷◌, Bool, true, false, ◌&&◌, ◌==◌, if◌then◌else◌, Option, Some, None, is_none, All}
+use Rattle.std.specs.Prelude.{◌≡◌, ℕ, zero, suc, ◌+◌, ◌-◌, ◌<◌, ◌≤◌, List, [], ◌∷◌, Bool, true, false, ◌&&◌, ◌==◌, if◌then◌else◌, Option, Some, None, is_none, All}
 use Rattle.sm_words.specs.Sums.{one_if}
 use Rattle.sm_words.specs.Words.{reg}
 use Rattle.schedule_file.specs.declared.Entry.{Entry}
 use Rattle.mod_layout.specs.Table.{module_of}
 use Rattle.mod_layout.specs.declared.Module.{Module}
 use Rattle.pc_access.specs.Rights.{is_id}
-use Rattle.pc_access.specs.declared.Stop.{Stop}
 use Rattle.image_text.specs.Image.{Image, IsImage}
 use Rattle.reg_backup.specs.Saved.{saved}
 use Rattle.reg_backup.specs.declared.backup.Backup.{Backup}
-use Rattle.reg_backup.specs.declared.backup.Phase.{Phase}
-use Rattle.reg_backup.specs.declared.backup.Phase.TheVariants.{Run, Pad}
 use Rattle.reg_backup.specs.declared.frames.Frame.{Frame}
 use Rattle.reg_backup.specs.declared.frames.Frame.TheVariants.{Plain, Module as Held}
 use Rattle.cpu_step.specs.Lone.{Job, Lone, CallEnd, Exit, Closing, Broken, Running, job_of, starts}
 use Rattle.tracer.specs.declared.Event.{Event}
-use Rattle.tracer.specs.declared.Event.TheVariants.{Resume as Resumed, Close as Closed, Handler as Handling, Leave as Left, Hide as Hid, Enter as Entered, Stop as Stopped}
+use Rattle.tracer.specs.declared.Event.TheVariants.{Resume as Resumed, Hide as Hid}
 use Rattle.written_machine.specs.Cycle.{ticked, settle, due, cycle, after_cycles}
 use Rattle.written_machine.specs.Peers.{section}
 use Rattle.written_machine.specs.State.{State}
 use Rattle.written_machine.specs.View.{at}
-
--- ---- what events tell
-
--- module m is entered, called by the module from, or by the outside where that is 0
-abbrev pub Enters : ℕ → ℕ → List Event → Type 0
-Enters m from [] = ⊥
-Enters m from (e ∷ es) = (e ≡ Entered m from) ⊎ Enters m from es
-
--- module m is neither left nor closed
-abbrev pub NoEnd : ℕ → List Event → Type 0
-NoEnd m [] = Unit {0}
-NoEnd m (Left id pc ∷ es) = (id ≢ m) × NoEnd m es
-NoEnd m (Closed id ∷ es) = (id ≢ m) × NoEnd m es
-NoEnd m (_ ∷ es) = NoEnd m es
-
--- module m is left or closed
-abbrev pub EndsCall : ℕ → List Event → Type 0
-EndsCall m [] = ⊥
-EndsCall m (Left id pc ∷ es) = (id ≡ m) ⊎ EndsCall m es
-EndsCall m (Closed id ∷ es) = (id ≡ m) ⊎ EndsCall m es
-EndsCall m (_ ∷ es) = EndsCall m es
-
--- whether an event ends a call of module m
-abbrev pub ends_call : ℕ → Event → Bool
-ends_call m (Left id pc) = id == m
-ends_call m (Closed id) = id == m
-ends_call m _ = false
-
--- some module is hidden
-abbrev pub Hides : List Event → Type 0
-Hides [] = ⊥
-Hides (Hid id v ∷ es) = Unit {0}
-Hides (_ ∷ es) = Hides es
-
--- a handler begins
-abbrev pub Handles : List Event → Type 0
-Handles [] = ⊥
-Handles (Handling pc ∷ es) = Unit {0}
-Handles (_ ∷ es) = Handles es
-
--- the stop that they tell, if they tell one
-abbrev pub stop_in : List Event → Option Stop
-stop_in [] = None
-stop_in (Stopped stop ∷ es) = Some stop
-stop_in (_ ∷ es) = stop_in es
+use Rattle.run_laws.specs.Events.{Enters, NoEnd, EndsCall}
+use Rattle.run_laws.specs.Frames.{times, rest_of}
 
 -- ---- a call in the machine, and the same call by itself
 
@@ -123,17 +77,6 @@ abbrev pub find_held : ℕ → List Frame → Option Backup
 find_held m [] = None
 find_held m (Plain ∷ fs) = find_held m fs
 find_held m (Held b ∷ fs) = found_if (b.module == m) b (find_held m fs)
-
--- the number of its frames
-abbrev pub times : ℕ → List Frame → ℕ
-times m [] = 0
-times m (Plain ∷ fs) = times m fs
-times m (Held b ∷ fs) = one_if (b.module == m) + times m fs
-
--- the cycles that an instruction still needs
-abbrev pub rest_of : Phase → ℕ
-rest_of (Run rest) = rest
-rest_of (Pad left) = 0
 
 -- what a frame would hold of the module that is active
 abbrev pub backup_of : ℕ → State → Backup

@@ -4,7 +4,7 @@
 //! Each law is what a function here ensures; `specs/Laws.antt` states them in words.
 #![tactic(auto)]
 
-ghost use Rattle.isolation.specs.Laws.{SameViews, SameEvents, SamePhases, SameCallers, SameGie, SameOnceGone, SameTraces, SameLines, SameEnds, SameOutsideViews, SameStanding, SamePlays, SameLeads, ViewsWhile, EventsWhile, CallersWhile, GieWhile, PhasesWhile, TracesWhile, EndsAlike, AnswersAlone, ViewsOfTwo, TracesOfTwo, EnteredIsKnown, Transparency, Cost, HandlerAfterHide, HideBeforeHandler, Numbered, CoreKept, MemoryFull, MemoryBytes, TableKept, ModuleOnce, FramesFew, Passing, EventsFew, StopTold, StopRefused, TextReadable, ZerosWritable};
+ghost use Rattle.isolation.specs.Laws.{SameViews, SameEvents, SamePhases, SameCallers, SameGie, SameOnceGone, SameTraces, SameLines, SameEnds, SameOutsideViews, SameStanding, SamePlays, SameLeads, ViewsWhile, EventsWhile, CallersWhile, GieWhile, PhasesWhile, TracesWhile, EndsAlike, AnswersAlone, ViewsOfTwo, TracesOfTwo, EnteredIsKnown, Transparency, Cost};
 
 /// Two runs of peers are seen alike by all but the one module, and tell the same, in every cycle of every schedule.
 pub fn two_runs()
@@ -51,39 +51,4 @@ pub fn transparency()
 /// A call takes its own cycles, and those between its hides and its resumes.
 pub fn cost()
     ensures cycles { Cost }
-{}
-
-/// A handler begins exactly 12 cycles after a module was hidden.
-pub fn handlers()
-    ensures after { HandlerAfterHide }
-    ensures before { HideBeforeHandler }
-{}
-
-/// What every state of a run keeps.
-pub fn states()
-    ensures number { Numbered }
-    ensures core { CoreKept }
-    ensures full { MemoryFull }
-    ensures bytes { MemoryBytes }
-    ensures table { TableKept }
-    ensures once { ModuleOnce }
-    ensures few { FramesFew }
-{}
-
-/// Cycles of padding, of the rest of an instruction and of sleep may pass at once.
-pub fn passing()
-    ensures leads { Passing }
-{}
-
-/// A cycle tells at most four events, and of a stop exactly where it stops, which is where a check is refused.
-pub fn tells()
-    ensures few { EventsFew }
-    ensures stop { StopTold }
-    ensures refused { StopRefused }
-{}
-
-/// What no one is refused.
-pub fn unrefused()
-    ensures texts { TextReadable }
-    ensures zeros { ZerosWritable }
 {}

@@ -8,7 +8,7 @@ use Rattle.arm_balance.specs.declared.Arm.{Arm}
 use Rattle.flow_rule.specs.declared.Verdict.{Verdict}
 use Rattle.flow_rule.specs.declared.Verdict.TheVariants.{Yes, No}
 use Rattle.flow_rule.specs.Arms.{VerdictUnder}
-use Rattle.flow_rule.specs.Laws.{AgreeOn}
+use Rattle.flow_laws.specs.Laws.{AgreeOn}
 use Rattle.written_machine.specs.Peers.{section, DifferInData, PeersBut}
 use Rattle.peer_rows.specs.Laws.{AcceptedButAnswers}
 use Rattle.terms_file.specs.declared.Term.{Term}

@@ -12,7 +12,7 @@ ghost use Rattle.cli_calls.specs.Offers.{told_by};
 ghost use Rattle.cli_calls.specs.Words.{texts};
 ghost use Rattle.image_text.specs.Image.{Image};
 ghost use Rattle.mod_layout.specs.declared.Module.{Module};
-ghost use Rattle.flow_rule.specs.Laws.{AgreeOn};
+ghost use Rattle.flow_laws.specs.Laws.{AgreeOn};
 ghost use Rattle.terms_file.specs.declared.Term.{Term};
 ghost use Rattle.written_machine.specs.Peers.{DifferInData, Peers, PeersBut, section};
 ghost use Rattle.cli_calls.specs.CommandNames.{command_of};

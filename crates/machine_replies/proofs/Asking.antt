@@ -33,8 +33,8 @@ use Rattle.attest.specs.Units.{Doer, UnitName, Protect, Attest, Tag, unit_plan, 
 use Rattle.cpu_step.specs.Asked.{asks}
 use Rattle.cpu_step.specs.Plan.{plan, place, past, stepped, lowered, access_if, one_writes, reads_dst, writes_dst}
 use Rattle.tracer.specs.Laws.{IsWord}
-use Rattle.isolation.proofs.Each.{Each}
-use Rattle.isolation.proofs.Fine.{TableFine}
+use Rattle.run_laws.proofs.Each.{Each}
+use Rattle.run_laws.proofs.Fine.{TableFine}
 
 -- ---- what a refusal tells
 

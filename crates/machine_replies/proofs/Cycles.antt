@@ -38,12 +38,12 @@ use Rattle.written_machine.specs.State.{State}
 use Rattle.written_machine.specs.View.{at}
 use Rattle.written_machine.proofs.Stops.{cycle_by}
 use Rattle.written_machine.specs.Passing.{asleep}
-use Rattle.isolation.proofs.Cases.{turn_at, turn_unless, turn_is}
-use Rattle.isolation.proofs.Each.{Each}
-use Rattle.isolation.proofs.Filled.{Filled, settle_filled, ticked_filled, enter_filled, filled_at}
-use Rattle.isolation.proofs.Fine.{Fine, FineFrame, Small, settled_fine, ticked_fine, enter_fine, table_fine, fine_at}
-use Rattle.isolation.proofs.Passes.{ticked_sent}
-use Rattle.isolation.proofs.Ways.{settle_ways}
+use Rattle.run_laws.proofs.Cases.{turn_at, turn_unless, turn_is}
+use Rattle.run_laws.proofs.Each.{Each}
+use Rattle.run_laws.proofs.Filled.{Filled, settle_filled, ticked_filled, enter_filled, filled_at}
+use Rattle.run_laws.proofs.Fine.{Fine, FineFrame, Small, settled_fine, ticked_fine, enter_fine, table_fine, fine_at}
+use Rattle.run_laws.proofs.Passes.{ticked_sent}
+use Rattle.run_laws.proofs.Ways.{settle_ways}
 use Rattle.machine_replies.proofs.Asking.{IsWordPlace, place_word, IsWordDenied, denied_word, right_word, IsWordInsn, insn_word, asks_word, own_module}
 
 abbrev AreEvents : List Event → Type 0

@@ -21,9 +21,9 @@ use Rattle.vendor_tool.specs.Replies.{replies_of}
 use Rattle.vendor_tool.specs.Report.{judgement}
 use Rattle.vendor_tool.proofs.Judging.{genuine_is_modules}
 use Rattle.vendor_tool.proofs.OwnLines.{traces_are_read}
-use Rattle.isolation.proofs.Each.{Each}
-use Rattle.isolation.proofs.Fine.{Small, fine_at}
-use Rattle.isolation.proofs.Tame.{settle_same, ticked_same, turn_same}
+use Rattle.run_laws.proofs.Each.{Each}
+use Rattle.run_laws.proofs.Fine.{Small, fine_at}
+use Rattle.run_laws.proofs.Tame.{settle_same, ticked_same, turn_same}
 use Rattle.machine_replies.specs.Laws.{sent_after, CyclesAreTold, MachineTracesAreRead, GenuineWasSent}
 use Rattle.machine_replies.proofs.Cycles.{cycle_events}
 

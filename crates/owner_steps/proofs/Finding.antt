@@ -24,7 +24,7 @@ use Rattle.cpu_step.specs.Through.{AreAligned}
 use Rattle.written_machine.specs.Checks.{asked_by, asked_to_return, check_of, checks, checks_by, entered, first_word, insn_at_pc, later_checks, refused_in, returns_inside, stop_at}
 use Rattle.written_machine.specs.Cycle.{Step, byte_of, case_of, cycle, fetch, is_home, pc_of}
 use Rattle.written_machine.specs.State.{State}
-use Rattle.isolation.specs.Laws.{StopRefused}
+use Rattle.run_laws.specs.Laws.{StopRefused}
 use Rattle.board.specs.Watched.{Watched, is_begin, watched_by}
 use Rattle.board.proofs.Aligned.{plan_aligned}
 use Rattle.board.proofs.Runs.{stays}

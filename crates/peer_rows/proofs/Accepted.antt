@@ -11,9 +11,9 @@ use Rattle.image_text.specs.Image.{Image, IsImage}
 use Rattle.arm_balance.specs.declared.Arm.{Arm}
 use Rattle.flow_rule.specs.declared.Verdict.TheVariants.{Yes}
 use Rattle.flow_rule.specs.Arms.{VerdictUnder, VerdictWith}
-use Rattle.flow_rule.specs.Laws.{IsData, AgreeOn}
+use Rattle.flow_laws.specs.Laws.{IsData, AgreeOn}
 use Rattle.flow_rule.specs.Terms.{Terms, no_terms}
-use Rattle.flow_rule.proofs.Calls.{even_under}
+use Rattle.flow_laws.proofs.Calls.{even_under}
 use Rattle.cpu_step.specs.Lone.{is_answer}
 use Rattle.written_machine.specs.Peers.{section, DifferInData, PeersBut, Peers}
 

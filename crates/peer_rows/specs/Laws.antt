@@ -7,7 +7,7 @@ use Rattle.arm_balance.specs.declared.Arm.{Arm}
 use Rattle.cpu_step.specs.Lone.{is_answer}
 use Rattle.flow_rule.specs.declared.Verdict.TheVariants.{Yes}
 use Rattle.flow_rule.specs.Arms.{VerdictUnder, VerdictWith}
-use Rattle.flow_rule.specs.Laws.{AgreeOn}
+use Rattle.flow_laws.specs.Laws.{AgreeOn}
 use Rattle.flow_rule.specs.Terms.{Terms}
 use Rattle.written_machine.specs.Peers.{section, DifferInData, PeersBut, Peers}
 

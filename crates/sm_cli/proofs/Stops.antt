@@ -14,8 +14,8 @@ use Rattle.written_machine.specs.State.{State}
 use Rattle.written_machine.specs.Trace.{event_lines, lines_after, end_line_of}
 use Rattle.written_machine.specs.View.{at, boot}
 use Rattle.written_machine.proofs.Stops.{cycle_by}
-use Rattle.isolation.specs.Calls.{stop_in}
-use Rattle.isolation.specs.Laws.{StopTold, StopRefused}
+use Rattle.run_laws.specs.Events.{stop_in}
+use Rattle.run_laws.specs.Laws.{StopTold, StopRefused}
 use Rattle.cli_files.specs.declared.answers.Status.TheVariants.{Stopped}
 use Rattle.cli_calls.specs.Command.{run_status, trace_answer}
 use Rattle.sm_cli.specs.Laws.{StopsIn, RunsStop}

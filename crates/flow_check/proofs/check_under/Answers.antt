@@ -6,7 +6,7 @@ use Rattle.flow_rule.specs.Terms.{Terms}
 use Rattle.flow_rule.specs.Iterations.{PointState}
 use Rattle.flow_rule.specs.Verdict.{Decided}
 use Rattle.flow_rule.specs.Arms.{flow_under, VerdictUnder}
-use Rattle.flow_rule.specs.Laws.{EvenUnder, KeptUnder}
+use Rattle.flow_laws.specs.Laws.{EvenUnder, KeptUnder}
 use Rattle.flow_check.specs.internal.Stubs.{IsStub}
 use Rattle.std.proofs.lemmas.Result.{IfOk-weaker}
 use Rattle.flow_check.proofs.Stubs.{start_is}

@@ -1,0 +1,12 @@
+pub mod Words
+pub mod Telling
+pub mod Labelling
+pub mod Runs
+pub mod Instruction
+pub mod Decoding
+pub mod Starts
+pub mod Open
+pub mod Begin
+pub mod ArmRuns
+pub mod Arms
+pub mod Calls

@@ -1,5 +1,0 @@
-use Rattle.isolation.proofs.Padding.{handler_after, hidden_before}
-use Rattle.isolation.proofs.handlers.Goals as goal
-
-pub returns : goal.returns
-returns c = record { after = handler_after; before = hidden_before }

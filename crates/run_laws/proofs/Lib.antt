@@ -1,0 +1,17 @@
+pub mod Cases
+pub mod Ways
+pub mod Each
+pub mod Bytes
+pub mod Ports
+pub mod Rights
+pub mod Tables
+pub mod Gie
+pub mod Fine
+pub mod Tame
+pub mod Padding
+pub mod Told
+pub mod Frames
+pub mod Framed
+pub mod Filled
+pub mod Refused
+pub mod Passes
