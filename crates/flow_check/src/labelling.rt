@@ -7,7 +7,7 @@ ghost use Rattle.flow_rule.specs.Iterations.{join_in, join_all, ProgramPoint, Po
 ghost use Rattle.flow_check.specs.internal.Points.{fronts_of, program_point, list_of, state_at, points_at};
 ghost use Rattle.flow_check.specs.internal.Points.{point_at, points_of};
 ghost use Rattle.flow_check.specs.internal.Labellings.{mark_at, changed_points, same_at, Listed, Fewer, KeptPoints, NoMark};
-ghost use Rattle.flow_check.specs.internal.Labellings.{Absent, Placed, place_of, Reached, StillKept, joined_point};
+ghost use Rattle.flow_check.specs.internal.Labellings.{Absent, PointsPlaced, point_place, Reached, StillKept, joined_point};
 ghost use Rattle.std.specs.List.Sorted.{IsNonDecreasing};
 
 use crate::call_string::CallString;
@@ -45,14 +45,14 @@ pub struct Labelling {
 impl Model for Labelling {
     ghost use Rattle.std.specs.Prelude.{List};
     ghost use Rattle.flow_check.specs.declared.labelling.Node.{Node};
-    ghost use Rattle.flow_check.specs.internal.Labellings.{Listed, Placed};
+    ghost use Rattle.flow_check.specs.internal.Labellings.{Listed, PointsPlaced};
 
     ghost Value = { List Node };
 
     ghost view = { λ l. l.nodes.items };
 
     // the map has the place of each program point, so that none stands twice, and the worklist those of them that changed
-    ghost invariant = { λ l. Placed l.nodes.items l.places × Listed l.nodes.items l.worklist.items };
+    ghost invariant = { λ l. PointsPlaced l.nodes.items l.places × Listed l.nodes.items l.worklist.items };
 }
 
 /// Whether one of these is this program point.
@@ -67,15 +67,15 @@ fn same_at(nodes: &[Node], point: &Point, i: usize) -> bool
 
 /// The place that a map has of a program point.
 fn place(places: &BTreeMap<Key, usize>, point: &Point) -> Option<usize>
-    ensures { result ≡ place_of places.now (program_point point.now) }
+    ensures { result ≡ point_place places.now (program_point point.now) }
 {
     places.get(&point.key()).copied()
 }
 
 /// Notes the place of a program point that has none.
 fn note_place(places: &mut BTreeMap<Key, usize>, point: &Point, at: usize) -> Result<(), AllocError>
-    ensures placed { (ns : List Node) → Absent (program_point point.now) ns → Placed ns places.old → Placed ns places.new }
-    ensures noted { OnOk result (place_of places.new (program_point point.now) ≡ Some at) }
+    ensures placed { (ns : List Node) → Absent (program_point point.now) ns → PointsPlaced ns places.old → PointsPlaced ns places.new }
+    ensures noted { OnOk result (point_place places.new (program_point point.now) ≡ Some at) }
 {
     places.insert(point.key(), at)?;
     Ok(())

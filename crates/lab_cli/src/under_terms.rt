@@ -9,7 +9,7 @@ ghost use Rattle.cli_files.specs.Causes.{IsNeedCause};
 ghost use Rattle.cli_files.specs.Files.{Holds, need, terms_file, the_terms};
 ghost use Rattle.cli_files.specs.NameText.{name_text};
 ghost use Rattle.lab_cli.specs.UnderTerms.{Judging, arms_needs, judged_command, read_judged, told_needs};
-ghost use Rattle.lab_cli.specs.internal.UnderTerms.{AreArmsOf, IsTold};
+ghost use Rattle.lab_cli.specs.internal.UnderTerms.{AreArmsOf, EndsBy};
 
 use crate::public_words::{not_data, put_not_data};
 use cli_calls::{Answering, Reading, file_named, id_of};
@@ -33,7 +33,7 @@ pub trait JudgedText: Drop {
         out: &mut O,
     ) -> Result<Status, AllocError>
         requires { IsModule chosen.now.image.table.given chosen.now.«module» }
-        ensures told { IfOk result (λ status. IsTold (judging told.now.terms.list.items chosen.now.«module»
+        ensures told { IfOk result (λ status. EndsBy (judging told.now.terms.list.items chosen.now.«module»
             (section chosen.now.«module».text chosen.now.image.memory) told.now.arms.list.items) status
             (Took O.taken O.faults O.sure out.old out.new) (CutOff O.taken O.faults O.sure out.old out.new)) }
         ensures nothing { IfErr result (λ _. out.new ≡ out.old) };

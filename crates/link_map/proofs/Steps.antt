@@ -25,7 +25,7 @@ use Rattle.link_symbols.specs.Passes.{NumberedObject, numbered_objects_from, map
 use Rattle.link_symbols.proofs.MeaningLemmas.{length_at}
 use Rattle.link_symbols.proofs.Steps.{numbered_step, numbered_over}
 use Rattle.link_map.specs.Lines.{after_blanks, numbered_text}
-use Rattle.link_map.specs.Map.{common_line, common_text, has_line, symbol_line, symbol_text, symbol_text_if}
+use Rattle.link_map.specs.Map.{common_line, common_text, is_shown, symbol_line, symbol_text, symbol_text_if}
 use Rattle.link_map.specs.Modules.{PlacedModule, has_boot, placed_module}
 use Rattle.mod_layout.specs.Table.{Table}
 use Rattle.link_map.specs.Parts.{PartValue, insert_part}
@@ -300,7 +300,7 @@ place_here_read value xs i at total d h low e = place_here value xs i at total (
 -- a line for a symbol, whose number was read
 pub symbol_read : (l : Linking) (table : Table) (x : NumberedObject) (numbers : List ℕ) (xs : List Symbol) (i : ℕ) (d : Symbol) (cur new total : List ℕ) → numbers ≡ numbers_in l x → xs ≡ x.object.symbols → i < length xs →
     cur ++ numbered_text (symbol_line l table x) i (drop i x.object.symbols) ≡ total →
-    new ≡ cur ++ symbol_text_if (has_line x.object i (get_or xs i d)) (symbol_text table (get_or numbers i 0) (get_or xs i d).binding x.number (part x.object (get_or xs i d).name)) →
+    new ≡ cur ++ symbol_text_if (is_shown x.object i (get_or xs i d)) (symbol_text table (get_or numbers i 0) (get_or xs i d).binding x.number (part x.object (get_or xs i d).name)) →
     new ++ numbered_text (symbol_line l table x) (i + 1) (drop (i + 1) x.object.symbols) ≡ total
 symbol_read l table x numbers xs i d cur new total e exs h inv made =
     let s : Symbol = get_or xs i d in
@@ -312,7 +312,7 @@ symbol_read l table x numbers xs i d cur new total e exs h inv made =
     let zero_first : 0 + i ≡ i = omega arith in
     let n : get_or numbers i 0 ≡ linked_number l x i s =
     ap (λ (ns : List ℕ). get_or ns i 0) e ∙ (number_at (linked_number l x) x.object.symbols i 0 s hs own ∙ ap (λ k. linked_number l x k s) zero_first) in
-    let whole : new ≡ cur ++ f i s = made ∙ ap (λ k. cur ++ symbol_text_if (has_line x.object i s) (symbol_text table k s.binding x.number (part x.object s.name))) n in
+    let whole : new ≡ cur ++ f i s = made ∙ ap (λ k. cur ++ symbol_text_if (is_shown x.object i s) (symbol_text table k s.binding x.number (part x.object s.name))) n in
     piece_more cur new (f i s) rest total (ap (λ (ys : List Symbol). cur ++ numbered_text f i ys) (sym (here x.object.symbols i s d hs is)) ∙ inv) whole
 
 -- the numbers of an object, where they were read

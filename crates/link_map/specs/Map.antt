@@ -83,11 +83,11 @@ symbol_text_if true text = text
 symbol_text_if false text = []
 
 -- a symbol of index 1 or more with a name has a line where it is in memory
-abbrev pub has_line : ObjectValue → ℕ → Symbol → Bool
-has_line o k s = nat_lt 0 k && not (length (part o s.name) == 0) && is_placed o s.home
+abbrev pub is_shown : ObjectValue → ℕ → Symbol → Bool
+is_shown o k s = nat_lt 0 k && not (length (part o s.name) == 0) && is_placed o s.home
 
 abbrev pub symbol_line : Linking → Table → NumberedObject → ℕ → Symbol → List ℕ
-symbol_line l table x k s = symbol_text_if (has_line x.object k s)
+symbol_line l table x k s = symbol_text_if (is_shown x.object k s)
     (symbol_text table (linked_number l x k s) s.binding x.number (part x.object s.name))
 
 abbrev pub symbol_lines : Linking → Table → NumberedObject → List ℕ

@@ -8,7 +8,7 @@ ghost use Rattle.link_symbols.specs.Commons.{Common};
 ghost use Rattle.linker.specs.Numbers.{Linking, numbers_in};
 ghost use Rattle.link_symbols.specs.Passes.{numbered_objects, part};
 ghost use Rattle.link_map.specs.Lines.{numbered_text};
-ghost use Rattle.link_map.specs.Map.{has_line, symbol_text_if, symbol_lines};
+ghost use Rattle.link_map.specs.Map.{is_shown, symbol_text_if, symbol_lines};
 ghost use Rattle.link_map.specs.Map as spec;
 ghost use Rattle.link_map.specs.internal.Values.{numbered_value, HasCommons};
 
@@ -104,7 +104,7 @@ fn put_symbol_if(
 ) -> Result<(), AllocError>
     requires symbol { IsSymbol (length x.object.now.file) (length x.object.now.sections) symbol }
     ensures { OnOk result (out.new.text.items ≡ out.old.text.items ++ symbol_text_if
-        (has_line x.entry.object.now k symbol)
+        (is_shown x.entry.object.now k symbol)
         (spec.symbol_text table.now number symbol.binding x.entry.number (part x.entry.object.now symbol.name))) }
 {
     if k > 0 && !x.object.part(symbol.name).is_empty() && is_placed(x.object, symbol.home) {

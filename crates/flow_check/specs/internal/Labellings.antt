@@ -25,12 +25,12 @@ abbrev pub Absent : ProgramPoint → List Node → Type 0
 Absent p ns = (k : ℕ) → k < length ns → same_at p ns k ≡ false
 
 -- the place that a map has of a program point
-abbrev pub place_of : BTreeMap (ArrayVec ℕ) ℕ → ProgramPoint → Option ℕ
-place_of places p = get_by (λ k. slice_cmp nat_cmp (key_of p) k.items) places
+abbrev pub point_place : BTreeMap (ArrayVec ℕ) ℕ → ProgramPoint → Option ℕ
+point_place places p = get_by (λ k. slice_cmp nat_cmp (key_of p) k.items) places
 
 -- it has that of each of these
-abbrev pub Placed : List Node → BTreeMap (ArrayVec ℕ) ℕ → Type 0
-Placed ns places = (p : ProgramPoint) (i : ℕ) → same_at p ns i ≡ true → place_of places p ≡ Some i
+abbrev pub PointsPlaced : List Node → BTreeMap (ArrayVec ℕ) ℕ → Type 0
+PointsPlaced ns places = (p : ProgramPoint) (i : ℕ) → same_at p ns i ≡ true → point_place places p ≡ Some i
 
 -- a point to whose state another was joined
 abbrev pub joined_point : PointState → AbstractState → PointState

@@ -14,7 +14,7 @@ AreArmsOf files None arms = arms ≡ []
 AreArmsOf files (Some name) arms = Holds files (need name arms_file) (certificates arms)
 
 -- an outcome is told: its answer ended so
-pub record IsTold (outcome : Outcome) (ended : Status) (took cut : List ℕ → Type 0) : Type 0 where
+pub record EndsBy (outcome : Outcome) (ended : Status) (took cut : List ℕ → Type 0) : Type 0 where
   pub answer : Answer
   pub is : Answers outcome answer
   pub sound : RunsImage outcome
