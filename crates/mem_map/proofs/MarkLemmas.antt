@@ -10,6 +10,7 @@ use Rattle.std.proofs.lemmas.List.Sums.{sum_by-set, sum_by-cons, count_by-le-len
 use Rattle.page_pool.specs.Tables.{table_of, zeros, IsLive, IsUnused}
 use Rattle.mem_map.specs.Contents.{Contents}
 use Rattle.mem_map.specs.internal.Marks.{contents_of, table_bytes, IsMarked}
+use Rattle.std.proofs.lemmas.List.Quantifiers.{all_pairs_push}
 
 -- ---- tables
 
@@ -171,12 +172,7 @@ mark_marked tables present marks room u k n =
       all_live = All-push (λ mark. IsLive (set tables u (table_of tables present)) mark) marks u (all_live_other tables u (table_of tables present) marks away k.all_live)
           (subst (λ (x : Option (List ℕ)). IsSome x) (sym (get_or-set_same tables u (table_of tables present) None n.there)) k.live);
       apart = All-push (λ mark. mark ≢ present) marks u k.apart (λ e. apart (sym e));
-      once = λ i j h l. ⊎_elim
-          (λ m. λ e. k.once i j h m (sym (get_or_append_left marks (u ∷ []) 0 i (omega arith)) ∙ e ∙ get_or_append_left marks (u ∷ []) 0 j m))
-          (λ m. λ e. let last : length marks ≡ j = omega arith in
-          All-get_or (λ mark. mark ≢ u) marks i 0 (omega arith) away
-          (sym (get_or_append_left marks (u ∷ []) 0 i (omega arith)) ∙ e ∙ get_or_push marks u 0 j last))
-          (cases_lt j (length marks));
+      once = all_pairs_push (λ a b. a ≢ b) marks u k.once (λ i d l. All-get_or (λ mark. mark ≢ u) marks i d l away);
       alone = omega arith;
     }
 
@@ -197,11 +193,11 @@ pub drop_marked : (tables : Tables) (present : ℕ) (marks front : List ℕ) (ro
 drop_marked tables present marks front room mark k e =
     let longer : length marks ≡ length front + 1 = ap length e ∙ length-append front (mark ∷ []) in
     let last : get_or marks (length front) 0 ≡ mark = ap (λ (ms : List ℕ). get_or ms (length front) 0) e ∙ get_or_push front mark 0 (length front) refl in
-    let same : (i : ℕ) → i < length front → get_or marks i 0 ≡ get_or front i 0 = λ i h. ap (λ (ms : List ℕ). get_or ms i 0) e ∙ get_or_append_left front (mark ∷ []) 0 i h in
-    let front_of : (P : ℕ → Type 0) → All P marks → All P front = λ P h. All-from_get_or P front 0 (λ i l. subst P (same i l) (All-get_or P marks i 0 (omega arith) h)) in
+    let same : (d i : ℕ) → i < length front → get_or marks i d ≡ get_or front i d = λ d i h. ap (λ (ms : List ℕ). get_or ms i d) e ∙ get_or_append_left front (mark ∷ []) d i h in
+    let front_of : (P : ℕ → Type 0) → All P marks → All P front = λ P h. All-from_get_or P front 0 (λ i l. subst P (same 0 i l) (All-get_or P marks i 0 (omega arith) h)) in
     let live_mark : IsLive tables mark = subst (λ (x : ℕ). IsLive tables x) last (All-get_or (λ m. IsLive tables m) marks (length front) 0 (omega arith) k.all_live) in
     let apart_mark : mark ≢ present = subst (λ (x : ℕ). x ≢ present) last (All-get_or (λ m. m ≢ present) marks (length front) 0 (omega arith) k.apart) in
-    let away : All (λ m. m ≢ mark) front = All-from_get_or (λ m. m ≢ mark) front 0 (λ i l q. k.once i (length front) l (omega arith) (same i l ∙ q ∙ sym last)) in
+    let away : All (λ m. m ≢ mark) front = All-from_get_or (λ m. m ≢ mark) front 0 (λ i l q. k.once i (length front) 0 l (omega arith) (same 0 i l ∙ q ∙ sym last)) in
     let there = live_there tables mark live_mark in
     let long = length-set tables mark None in
     let moved : count_by (λ table. is_some table) (set tables mark None) + cond {A = ℕ} (is_some (get_or tables mark None)) 1 0 ≡ count_by (λ table. is_some table) tables + 0 = live_set tables mark None there in
@@ -213,7 +209,7 @@ drop_marked tables present marks front room mark k e =
       live = live_other tables mark present None (λ q. apart_mark (sym q)) k.live;
       all_live = all_live_other tables mark None front away (front_of (λ m. IsLive tables m) k.all_live);
       apart = front_of (λ m. m ≢ present) k.apart;
-      once = λ i j h l q. k.once i j h (omega arith) (same i (omega arith) ∙ q ∙ sym (same j l));
+      once = λ i j d h l q. k.once i j d h (omega arith) (same d i (omega arith) ∙ q ∙ sym (same d j l));
       alone = omega arith;
     }
 
@@ -223,9 +219,9 @@ pub drop_shown : (tables : Tables) (present : ℕ) (marks front : List ℕ) (roo
 drop_shown tables present marks front room mark before k e s =
     let longer : length marks ≡ length front + 1 = ap length e ∙ length-append front (mark ∷ []) in
     let last : get_or marks (length front) 0 ≡ mark = ap (λ (ms : List ℕ). get_or ms (length front) 0) e ∙ get_or_push front mark 0 (length front) refl in
-    let same : (i : ℕ) → i < length front → get_or marks i 0 ≡ get_or front i 0 = λ i h. ap (λ (ms : List ℕ). get_or ms i 0) e ∙ get_or_append_left front (mark ∷ []) 0 i h in
+    let same : (d i : ℕ) → i < length front → get_or marks i d ≡ get_or front i d = λ d i h. ap (λ (ms : List ℕ). get_or ms i d) e ∙ get_or_append_left front (mark ∷ []) d i h in
     let apart_mark : mark ≢ present = subst (λ (x : ℕ). x ≢ present) last (All-get_or (λ m. m ≢ present) marks (length front) 0 (omega arith) k.apart) in
-    let away : All (λ m. m ≢ mark) front = All-from_get_or (λ m. m ≢ mark) front 0 (λ i l q. k.once i (length front) l (omega arith) (same i l ∙ q ∙ sym last)) in
+    let away : All (λ m. m ≢ mark) front = All-from_get_or (λ m. m ≢ mark) front 0 (λ i l q. k.once i (length front) 0 l (omega arith) (same 0 i l ∙ q ∙ sym last)) in
     let marked : map (table_bytes tables) marks ≡ map (table_bytes tables) front ++ table_bytes tables mark ∷ [] = ap (map (table_bytes tables)) e ∙ map-append (table_bytes tables) front (mark ∷ []) in
     let size : length (map (table_bytes tables) marks) - 1 ≡ length (map (table_bytes tables) front) = (let a = length-map marks (table_bytes tables) in let b = length-map front (table_bytes tables) in omega arith) in
     let cut : take (length (map (table_bytes tables) marks) - 1) (map (table_bytes tables) marks) ≡ map (table_bytes tables) front =
@@ -334,7 +330,7 @@ first_marked bytes room most =
       live = subst (λ (x : Option (List ℕ)). IsSome x) (sym (get_or-set_same tables 0 (Some bytes) None there)) refl;
       all_live = All-nil (λ mark. IsLive (set tables 0 (Some bytes)) mark);
       apart = All-nil (λ mark. mark ≢ 0);
-      once = λ i j h l. absurd (omega arith);
+      once = λ i j d h l. absurd (omega arith);
       alone = omega arith;
     }
 

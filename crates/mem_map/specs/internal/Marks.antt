@@ -1,5 +1,5 @@
 -- How a memory keeps its bytes and those of its marks: one table of a pool each.
-use Rattle.std.specs.Prelude.{◌≡◌, ◌≢◌, ℕ, ◌+◌, ◌<◌, ◌≤◌, List, [], Option, All, length, get_or, map, count_by, is_some, unwrap_or}
+use Rattle.std.specs.Prelude.{◌≡◌, ◌≢◌, ℕ, ◌+◌, ◌≤◌, List, [], Option, All, AllPairs, length, map, count_by, is_some, unwrap_or}
 use Rattle.page_pool.specs.Tables.{table_of, IsLive}
 use Rattle.mem_map.specs.Contents.{Contents}
 
@@ -17,5 +17,5 @@ pub record IsMarked (tables : List (Option (List ℕ))) (present : ℕ) (marks :
   pub live : IsLive tables present
   pub all_live : All (λ mark. IsLive tables mark) marks
   pub apart : All (λ mark. mark ≢ present) marks
-  pub once : (i j : ℕ) → i < j → j < length marks → get_or marks i 0 ≢ get_or marks j 0
+  pub once : AllPairs (λ a b. a ≢ b) marks
   pub alone : count_by (λ table. is_some table) tables ≡ length marks + 1
