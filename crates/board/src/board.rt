@@ -123,7 +123,7 @@ impl Board {
         // Images that differ in one confined module's data alone tell the same.
         ensures peers { PeersTell self.old.present result.items }
     {
-        isolation::tells();
+        run_laws::tells();
         isolation::two_runs();
         let mut events = ArrayVec::new();
         self.step(&mut events);

@@ -27,7 +27,7 @@ impl Machine {
         ensures missed { NoneMissed result (state_of self.old) (state_of self.new) }
         ensures lasting { lasting_of self.new ≡ lasting_of self.old }
     {
-        isolation::passing();
+        run_laws::passing();
         let idle = self.idle_cycles();
         if idle == 0 {
             return 0;

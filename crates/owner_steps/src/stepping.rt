@@ -93,7 +93,7 @@ fn tick(board: &mut Board) -> (ArrayVec<Event, 4>, Option<Found>)
     ensures events { result.0.items ≡ (cycle board.old.present).events }
     ensures begun { option_map begun_of result.1 ≡ begun board.old.present }
 {
-    isolation::tells();
+    run_laws::tells();
     let mut watcher = Watcher { found: None };
     let events = board.tick_watched(&mut watcher);
     let found = if board.is_stopped() {

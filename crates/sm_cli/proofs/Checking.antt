@@ -19,7 +19,7 @@ use Rattle.cli_calls.specs.Verdicts.{verdict_status}
 use Rattle.sm_cli.specs.Serve.{call_of}
 use Rattle.sm_cli.specs.CheckCommand.{check_command}
 use Rattle.sm_cli.specs.BalanceCommand.{balanced_by, balance_command}
-use Rattle.sm_cli.specs.Checked.{IsCheck, IsBalance}
+use Rattle.sm_cli.specs.Input.{IsInput}
 use Rattle.cli_calls.specs.Calls.{Serves}
 use Rattle.sm_cli.proofs.ShortText.{short_text}
 use Rattle.cli_calls.proofs.Outcomes.{one_outcome}
@@ -28,20 +28,19 @@ only_yes : (v : Verdict) → verdict_status v ≡ Done → v ≡ Yes
 only_yes Yes e = refl
 only_yes (No addr why value) e = cc
 
+accepted_by : (map : FileMap) (owner : Module) (text : List ℕ) (command : Command) (arms : List Arm) (answer : Answer) → Comes (Some map) command (judges no_terms owner text arms) → answer.status ≡ Done → IsAnswer (Some map) command answer → VerdictWith owner text arms Yes
+accepted_by map owner text command arms answer comes status a =
+    let j : IsJudged no_terms owner text arms answer = subst (λ o. Answers o answer) (one_outcome map command a.outcome (judges no_terms owner text arms) a.comes comes) a.is in
+    let yes : j.verdict ≡ Yes = only_yes j.verdict (ap (λ (b : Answer). b.status) (sym j.tells) ∙ status) in
+    subst (λ v. VerdictWith owner text arms v) yes j.is
+
 module _ (map : FileMap) (name : List ℕ) (value : Image) (id : ℕ) (owner : Module) (image : IsImage value) (file : map name ≡ Some (image_text value)) (owned : module_of id value.table ≡ Some owner) where
   held : Holds (Some map) (need name (image_with id)) (an_image value)
   held = record { bytes = image_text value; file = file; short = short_text value image; is = (record { image = image; text = refl }, ap is_some owned) }
 
-  accepted_by : (command : Command) (arms : List Arm) (answer : Answer) → Comes (Some map) command (judges no_terms owner (section owner.text value.memory) arms) → answer.status ≡ Done → IsAnswer (Some map) command answer → VerdictWith owner (section owner.text value.memory) arms Yes
-  accepted_by command arms answer comes status a =
-      let text = section owner.text value.memory in
-      let j : IsJudged no_terms owner text arms answer = subst (λ o. Answers o answer) (one_outcome map command a.outcome (judges no_terms owner text arms) a.comes comes) a.is in
-      let yes : j.verdict ≡ Yes = only_yes j.verdict (ap (λ (b : Answer). b.status) (sym j.tells) ∙ status) in
-      subst (λ v. VerdictWith owner text arms v) yes j.is
-
   pub check_accepted : (answer : Answer) → answer.status ≡ Done → IsAnswer (Some map) (check_command name id) answer → VerdictWith owner (section owner.text value.memory) [] Yes
   check_accepted answer status a =
-      accepted_by (check_command name id) [] answer (record { helds = an_image value ∷ []; hold = (held, tt); is = ap (balanced_by value []) owned }) status a
+      accepted_by map owner (section owner.text value.memory) (check_command name id) [] answer (record { helds = an_image value ∷ []; hold = (held, tt); is = ap (balanced_by value []) owned }) status a
 
   module _ (arms_name : List ℕ) where
     abbrev BalanceComes : Type 0
@@ -59,25 +58,14 @@ module _ (map : FileMap) (name : List ℕ) (value : Image) (id : ℕ) (owner : M
     pub balance_accepted : (answer : Answer) → answer.status ≡ Done → IsAnswer (Some map) (balance_command name id arms_name) answer → (arms : List Arm) × VerdictWith owner (section owner.text value.memory) arms Yes
     balance_accepted answer status a =
         let found = balance_comes a.comes.helds a.comes.hold in
-        (found.0, accepted_by (balance_command name id arms_name) found.0 answer found.1 status a)
+        (found.0, accepted_by map owner (section owner.text value.memory) (balance_command name id arms_name) found.0 answer found.1 status a)
 
 -- where the check is answered yes, an image that differs in the module's data alone is a peer
-pub checked_peers : (words : List (List ℕ)) (files : Option FileMap) (before after : ℕ) (took : List ℕ → Type 0) (value other : Image) (id : ℕ) (owner : Module)
-    → IsCheck words files value id → DifferInData value other id owner → Serves (call_of words files before after) Done took → AcceptedArePeers → Peers value other id
-checked_peers words files before after took value other id owner i d s law =
-    let both : Some s.command ≡ Some (check_command i.name id) = sym s.asked ∙ i.command in
-    let same : s.command ≡ check_command i.name id = cc in
-    let answered : IsAnswer (Some i.map) (check_command i.name id) s.answer =
+pub checked_peers : (words : List (List ℕ)) (files : Option FileMap) (before after : ℕ) (took : List ℕ → Type 0) (value other : Image) (id : ℕ) (owner : Module) (arms : List Arm)
+    → IsInput words files (judges no_terms owner (section owner.text value.memory) arms) → DifferInData value other id owner → Serves (call_of words files before after) Done took → AcceptedArePeers → Peers value other id
+checked_peers words files before after took value other id owner arms i d s law =
+    let both : Some s.command ≡ Some i.command = sym s.asked ∙ i.asked in
+    let same : s.command ≡ i.command = cc in
+    let answered : IsAnswer (Some i.map) i.command s.answer =
     subst (λ k. IsAnswer (Some i.map) k s.answer) same (subst (λ o. IsAnswer o s.command s.answer) i.told s.served) in
-    law value other id owner [] d (check_accepted i.map i.name value id owner i.image i.file d.owned s.answer s.status answered)
-
--- the same with certificates
-pub balanced_peers : (words : List (List ℕ)) (files : Option FileMap) (before after : ℕ) (took : List ℕ → Type 0) (value other : Image) (id : ℕ) (owner : Module)
-    → IsBalance words files value id → DifferInData value other id owner → Serves (call_of words files before after) Done took → AcceptedArePeers → Peers value other id
-balanced_peers words files before after took value other id owner i d s law =
-    let both : Some s.command ≡ Some (balance_command i.name id i.arms) = sym s.asked ∙ i.command in
-    let same : s.command ≡ balance_command i.name id i.arms = cc in
-    let answered : IsAnswer (Some i.map) (balance_command i.name id i.arms) s.answer =
-    subst (λ k. IsAnswer (Some i.map) k s.answer) same (subst (λ o. IsAnswer o s.command s.answer) i.told s.served) in
-    let yes = balance_accepted i.map i.name value id owner i.image i.file d.owned i.arms s.answer s.status answered in
-    law value other id owner yes.0 d yes.1
+    law value other id owner arms d (accepted_by i.map owner (section owner.text value.memory) i.command arms s.answer i.comes s.status answered)

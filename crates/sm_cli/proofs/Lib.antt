@@ -6,7 +6,6 @@ pub mod KeyBytes
 pub mod Listing
 pub mod Needed
 pub mod Running
-pub mod Serving
 pub mod ShortText
 pub mod Something
 pub mod Stops

@@ -38,7 +38,7 @@ pub fn runs_stop()
     ensures stopped { RunsStop }
 {
     // Lemma call, no effect at run time: a machine stops, and tells it, by the first check that is refused.
-    isolation::tells();
+    run_laws::tells();
 }
 
 /// A sink that is sure of as many bytes as an answer, or a refusal's line, may have is not cut off within one, so `serve` on two

@@ -6,7 +6,9 @@ ghost use Rattle.sm_io.specs.Sink.{Took, CutOff};
 ghost use Rattle.schedule_file.specs.declared.Entry.{Entry as EntryValue};
 ghost use Rattle.image_text.specs.Image.{Image as ImageValue, IsImage};
 ghost use Rattle.mod_layout.specs.declared.Module.{Module as ModuleValue};
-ghost use Rattle.written_machine.specs.Peers.{DifferInData, Peers};
+ghost use Rattle.arm_balance.specs.declared.Arm.{Arm as ArmValue};
+ghost use Rattle.flow_rule.specs.Terms.{no_terms};
+ghost use Rattle.written_machine.specs.Peers.{section, DifferInData, Peers};
 ghost use Rattle.written_machine.specs.Script.{play};
 ghost use Rattle.written_machine.specs.Trace.{trace};
 ghost use Rattle.written_machine.specs.View.{at, view_of};
@@ -14,14 +16,13 @@ ghost use Rattle.written_machine.specs.declared.Hidden.TheVariants.{Only};
 ghost use Rattle.written_machine.specs.declared.ScriptLine.{ScriptLine as ScriptLineValue};
 ghost use Rattle.cli_files.specs.declared.answers.Status.{Status as Statuses};
 ghost use Rattle.cli_files.specs.declared.answers.FileFault.{FileFault as FileFaults};
-ghost use Rattle.sm_cli.specs.Checked.{IsCheck, IsBalance};
-ghost use Rattle.cli_calls.specs.Command.{Command, Outcome, Comes, IfAnswered, refuses, run_status};
+ghost use Rattle.cli_calls.specs.Command.{Command, Outcome, Comes, IfAnswered, gives, judges, refuses, run_status, runs};
 ghost use Rattle.link_symbols.specs.declared.fault.LinkFault.{LinkFault as LinkFaults};
 ghost use Rattle.cli_calls.specs.CommandNames.{command_of};
 ghost use Rattle.sm_cli.specs.Serve.{call_of};
 ghost use Rattle.sm_cli.specs.CommandLine.{sancus_commands};
 ghost use Rattle.cli_files.specs.Files.{IsFirstFault};
-ghost use Rattle.sm_cli.specs.Input.{IsInput, IsScriptInput};
+ghost use Rattle.sm_cli.specs.Input.{IsInput};
 ghost use Rattle.sm_cli.specs.MonitorCommand.{script_start, script_answer};
 ghost use Rattle.cli_calls.specs.Words.{texts};
 ghost use Rattle.cli_calls.specs.Calls.{Serves, Refuses, IsOrOutside, Completes};
@@ -45,7 +46,7 @@ pub fn serve<F: Files, O: Sink, E: Sink>(
     // that differs in one confined module's data alone, whose calls give the same registers in the same cycles, it is
     // the same trace, with equal views of all but that module at every cycle.
     ensures headline { (value : ImageValue) (entries : List EntryValue) (cycles : ℕ) →
-        IsInput (texts words.now) (F.content files.old) value entries cycles →
+        IsInput (texts words.now) (F.content files.old) (runs value entries cycles) →
         ¬ (Rose (F.faults files.old) (F.faults files.new)) → ¬ (Rose (O.faults out.old) (O.faults out.new)) →
         ¬ (Rose (E.faults err.old) (E.faults err.new)) → result ≢ Status.NoMemory →
         (Took O.taken O.faults O.sure out.old out.new (trace value entries cycles) × (err.new ≡ err.old)
@@ -59,7 +60,7 @@ pub fn serve<F: Files, O: Sink, E: Sink>(
     // The same of a script: `out` takes exactly what it writes on the written machine from the start of the image, with
     // room for 16 marks, and the same from the start of every image that differs so.
     ensures scripts { (value : ImageValue) (entries : List EntryValue) (script : List ScriptLineValue) →
-        IsScriptInput (texts words.now) (F.content files.old) value entries script →
+        IsInput (texts words.now) (F.content files.old) (gives (script_answer value entries script)) →
         ¬ (Rose (F.faults files.old) (F.faults files.new)) → ¬ (Rose (O.faults out.old) (O.faults out.new)) →
         ¬ (Rose (E.faults err.old) (E.faults err.new)) → result ≢ Status.NoMemory →
         (Took O.taken O.faults O.sure out.old out.new (play (script_start value entries) script) × (err.new ≡ err.old)
@@ -67,12 +68,12 @@ pub fn serve<F: Files, O: Sink, E: Sink>(
         × ((other : ImageValue) (m : ℕ) → Peers value other m →
         Took O.taken O.faults O.sure out.old out.new (play (script_start other entries) script)) }
 
-    // A module by itself: where its check is answered yes, every image that differs in its data alone is a peer.
-    ensures checked { result ≡ Status.Done → (value other : ImageValue) (id : ℕ) (owner : ModuleValue) →
-        IsCheck (texts words.now) (F.content files.old) value id →
-        DifferInData value other id owner → Peers value other id }
-    ensures balanced { result ≡ Status.Done → (value other : ImageValue) (id : ℕ) (owner : ModuleValue) →
-        IsBalance (texts words.now) (F.content files.old) value id →
+    // A module by itself: where its check is answered yes, with certificates or none, every image that has its text and
+    // differs in its data alone is a peer.
+    ensures checked { result ≡ Status.Done →
+        (value other : ImageValue) (id : ℕ) (owner : ModuleValue) (arms : List ArmValue) →
+        IsInput (texts words.now) (F.content files.old)
+        (judges no_terms owner (section owner.text value.memory) arms) →
         DifferInData value other id owner → Peers value other id }
 
     // An answer: the words are a command that its files serve; `out` took its output, and `err` nothing.

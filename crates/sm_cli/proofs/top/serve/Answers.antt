@@ -8,8 +8,7 @@ use Rattle.sm_cli.specs.declared.commands.script.TheConstants.{MOST_MARKS}
 use Rattle.cli_calls.specs.Words.{texts}
 use Rattle.cli_files.specs.declared.answers.Status.TheVariants as status
 use Rattle.cli_calls.proofs.Ending.{at, no_command, bad_file, link_refused, completes, whole, cut_rose}
-use Rattle.sm_cli.proofs.Serving.{run_input, script_input}
-use Rattle.sm_cli.proofs.Checking.{checked_peers, balanced_peers}
+use Rattle.sm_cli.proofs.Checking.{checked_peers}
 use Rattle.sm_cli.proofs.Needed.{if_answered}
 use Rattle.sm_cli.proofs.top.serve.Goals as goal
 
@@ -25,8 +24,7 @@ returns g c =
     let out_rose = cut_rose g.O.Sink.taken g.O.Sink.faults g.O.Sink.sure c.args.out.now c.end_call.new.out in
     let err_rose = cut_rose g.E.Sink.taken g.E.Sink.faults g.E.Sink.sure c.args.err.now c.end_call.new.err in
     record {
-      headline = λ value entries cycles i no_read no_out no_err room.
-          let input = run_input words files value entries cycles i in
+      headline = λ value entries cycles input no_read no_out no_err room.
           let all = whole _ _ _ _ _ _ _ input.map input.command input.told input.asked ended end (runs value entries cycles) (trace_answer value entries cycles) input.comes refl room no_read
           (λ h. no_out (out_rose _ h)) (λ text h. no_err (err_rose text h)) in (
             all.0,
@@ -36,8 +34,7 @@ returns g c =
               λ k within. c.two_runs.ensures.views value other m entries k peers,
             ),
           );
-      scripts = λ value entries script i no_read no_out no_err room.
-          let input = script_input words files value entries script i in
+      scripts = λ value entries script input no_read no_out no_err room.
           let answer = script_answer value entries script in
           let all = whole _ _ _ _ _ _ _ input.map input.command input.told input.asked ended end (gives answer) answer input.comes refl room no_read
           (λ h. no_out (out_rose _ h)) (λ text h. no_err (err_rose text h)) in (
@@ -45,8 +42,7 @@ returns g c =
             λ other m peers. subst (λ t. Took g.O.Sink.taken g.O.Sink.faults g.O.Sink.sure c.args.out.now c.end_call.new.out t)
                 (c.texts.ensures.scripts value other m entries MOST_MARKS 0 [] script peers) all.0.0,
           );
-      checked = λ e value other id owner i d. checked_peers words files before after took value other id owner i d (at _ _ _ _ _ _ _ ended status.Done end e).0 c.accepted_are_peers.ensures.peers;
-      balanced = λ e value other id owner i d. balanced_peers words files before after took value other id owner i d (at _ _ _ _ _ _ _ ended status.Done end e).0 c.accepted_are_peers.ensures.peers;
+      checked = λ e value other id owner arms input d. checked_peers words files before after took value other id owner arms input d (at _ _ _ _ _ _ _ ended status.Done end e).0 c.accepted_are_peers.ensures.peers;
       done = at _ _ _ _ _ _ _ ended status.Done end;
       stopped = at _ _ _ _ _ _ _ ended status.Stopped end;
       check_no = at _ _ _ _ _ _ _ ended status.CheckNo end;
