@@ -17,10 +17,11 @@ use Rattle.cli_files.specs.Files.{Held, an_image, certificates, image_with, arms
 use Rattle.cli_calls.specs.Command.{Command, Answer, judges, Comes, Answers, IsJudged, IsAnswer}
 use Rattle.cli_calls.specs.Verdicts.{verdict_status}
 use Rattle.sm_cli.specs.Serve.{call_of}
-use Rattle.sm_cli.specs.CheckCommand.{check_command}
-use Rattle.sm_cli.specs.BalanceCommand.{balanced_by, balance_command}
+use Rattle.sm_cli.specs.CheckCommand.{check_outcome, check_command}
+use Rattle.sm_cli.specs.BalanceCommand.{balance_outcome, balance_command}
 use Rattle.sm_cli.specs.Input.{IsInput}
 use Rattle.cli_calls.specs.Calls.{Serves}
+use Rattle.sm_cli.proofs.OfModule.{of_module}
 use Rattle.sm_cli.proofs.ShortText.{short_text}
 use Rattle.cli_calls.proofs.Outcomes.{one_outcome}
 
@@ -40,14 +41,14 @@ module _ (map : FileMap) (name : List ℕ) (value : Image) (id : ℕ) (owner : M
 
   pub check_accepted : (answer : Answer) → answer.status ≡ Done → IsAnswer (Some map) (check_command name id) answer → VerdictWith owner (section owner.text value.memory) [] Yes
   check_accepted answer status a =
-      accepted_by map owner (section owner.text value.memory) (check_command name id) [] answer (record { helds = an_image value ∷ []; hold = (held, tt); is = ap (balanced_by value []) owned }) status a
+      accepted_by map owner (section owner.text value.memory) (check_command name id) [] answer (record { helds = an_image value ∷ []; hold = (held, tt); is = of_module check_outcome value id owner [] owned }) status a
 
   module _ (arms_name : List ℕ) where
     abbrev BalanceComes : Type 0
     BalanceComes = (arms : List Arm) × Comes (Some map) (balance_command name id arms_name) (judges no_terms owner (section owner.text value.memory) arms)
 
     balance_with : (arms : Held) → Holds (Some map) (need arms_name arms_file) arms → BalanceComes
-    balance_with (certificates arms) h = (arms, record { helds = an_image value ∷ certificates arms ∷ []; hold = (held, (h, tt)); is = ap (balanced_by value arms) owned })
+    balance_with (certificates arms) h = (arms, record { helds = an_image value ∷ certificates arms ∷ []; hold = (held, (h, tt)); is = of_module balance_outcome value id owner (certificates arms ∷ []) owned })
     balance_with _ h = absurd h.is
 
     balance_comes : (helds : List Held) → HoldAll (Some map) (need name (image_with id) ∷ need arms_name arms_file ∷ []) helds → BalanceComes

@@ -5,6 +5,7 @@ pub mod Joins
 pub mod KeyBytes
 pub mod Listing
 pub mod Needed
+pub mod OfModule
 pub mod Running
 pub mod ShortText
 pub mod Something

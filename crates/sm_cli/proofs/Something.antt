@@ -1,6 +1,6 @@
 -- Something comes of the files of every command line.
 use Rattle.std.proofs.Common.{◌≡◌, ℕ, ◌%◌, ◌==◌, ◌&&◌, nat_le, true, is_some, List, [], ◌∷◌, ◌++◌, drop, Option, Some, None, option_map, sym, ◌∙◌, ap}
-use Rattle.std.specs.Prelude.{option_and_then}
+use Rattle.std.specs.Prelude.{option_and_then, option_map_or}
 use Rattle.sm_io.specs.Files.{FileMap}
 use Rattle.texts.specs.Hexadecimals.{read_hex_word, read_hex_key}
 use Rattle.mod_layout.specs.declared.Module.{Module}
@@ -20,22 +20,22 @@ use Rattle.cli_calls.specs.CommandNames.{command_of}
 use Rattle.cli_calls.specs.ImageRuns.{with_schedule}
 use Rattle.sm_cli.specs.CommandLine.{sancus_commands}
 use Rattle.sm_cli.specs.AsmCommand.{asm_command, read_asm}
-use Rattle.sm_cli.specs.BalanceCommand.{balanced_by, balance_command, balance_in, read_balance}
+use Rattle.sm_cli.specs.BalanceCommand.{balance_outcome, balance_command, read_balance}
 use Rattle.sm_cli.specs.ChallengeCommand.{challenge_command, read_challenge}
-use Rattle.sm_cli.specs.CheckCommand.{check_command, read_check}
+use Rattle.sm_cli.specs.CheckCommand.{check_outcome, check_command, read_check}
 use Rattle.sm_cli.specs.DisCommand.{dis_command, range_command, read_dis}
-use Rattle.sm_cli.specs.KeyCommand.{keys_by, key_command, read_key}
+use Rattle.sm_cli.specs.KeyCommand.{key_outcome, key_command, read_key}
 use Rattle.cli_calls.specs.Linking.{linked, with_objects}
 use Rattle.cli_calls.proofs.Given.{objects_of, some_objects, with_these}
 use Rattle.cli_calls.proofs.Sound.{Sound, AllSound, some_linked, of_image_run, of_objects, IfSound, IsSomething, if_none, if_some, if_map, if_then, if_else, something_comes}
 use Rattle.sm_cli.specs.LinkCommand.{linked_image_text}
-use Rattle.sm_cli.specs.LoneCommand.{lone_by, lone_command, lone_with, read_lone}
+use Rattle.sm_cli.specs.LoneCommand.{lone_outcome, lone_command, lone_with, read_lone}
 use Rattle.sm_cli.specs.MakeCommand.{make_command, read_make, seed_of}
 use Rattle.sm_cli.specs.MonitorCommand.{monitor_command, read_monitor}
 use Rattle.sm_cli.specs.declared.pairs.Pair.{Pair}
 use Rattle.sm_cli.specs.Pairs.{core_with, pairs_in}
 use Rattle.sm_cli.specs.RunCommand.{run_command, read_run}
-use Rattle.sm_cli.specs.VendorCommand.{report_by, vendor_command, read_vendor}
+use Rattle.sm_cli.specs.VendorCommand.{vendor_outcome, vendor_command, read_vendor}
 use Rattle.sm_cli.proofs.Running.{objects_unscheduled}
 
 -- ---- the commands
@@ -43,13 +43,13 @@ use Rattle.sm_cli.proofs.Running.{objects_unscheduled}
 some_run : IsSomething runs
 some_run value entries cycles e = cc
 
-some_key : (value : Image) (o : Option Module) → is_some o ≡ true → keys_by value o ≡ nothing → ⊥
-some_key value None s e = cc
-some_key value (Some m) s e = cc
+some_module : (outcome : Module → Outcome) (o : Option Module) → is_some o ≡ true → ((m : Module) → outcome m ≡ nothing → ⊥) → option_map_or outcome o nothing ≡ nothing → ⊥
+some_module outcome None s some e = cc
+some_module outcome (Some m) s some e = some m e
 
 sound_key : (name : Text) (id : ℕ) → Sound (key_command name id)
 sound_key name id map [] h e = h
-sound_key name id map (an_image value ∷ []) h e = some_key value (module_of id value.table) h.0.is.1 e
+sound_key name id map (an_image value ∷ []) h e = some_module (λ m. key_outcome value m []) (module_of id value.table) h.0.is.1 (λ m e. cc) e
 sound_key name id map (an_image value ∷ held ∷ more) h e = h.1
 sound_key name id map (held ∷ more) h e = h.0.is
 
@@ -65,38 +65,26 @@ sound_challenge name map (the_challenges list ∷ []) h e = cc
 sound_challenge name map (the_challenges list ∷ held ∷ more) h e = h.1
 sound_challenge name map (held ∷ more) h e = h.0.is
 
-some_report : (provider : List ℕ) (value : Image) (list : List Challenge) (sent : List ℕ) (o : Option Module) → is_some o ≡ true → report_by provider value list sent o ≡ nothing → ⊥
-some_report provider value list sent None s e = cc
-some_report provider value list sent (Some m) s e = cc
-
 sound_vendor : (image challenges trace : Text) (id : ℕ) (provider : List ℕ) → Sound (vendor_command image challenges trace id provider)
 sound_vendor image challenges trace id provider map [] h e = h
 sound_vendor image challenges trace id provider map (held ∷ []) h e = h.1
 sound_vendor image challenges trace id provider map (held ∷ second ∷ []) h e = h.1.1
-sound_vendor image challenges trace id provider map (an_image value ∷ the_challenges list ∷ the_replies sent ∷ []) h e = some_report provider value list sent (module_of id value.table) h.0.is.1 e
+sound_vendor image challenges trace id provider map (an_image value ∷ the_challenges list ∷ the_replies sent ∷ []) h e = some_module (λ m. vendor_outcome provider value m (the_challenges list ∷ the_replies sent ∷ [])) (module_of id value.table) h.0.is.1 (λ m e. cc) e
 sound_vendor image challenges trace id provider map (an_image value ∷ the_challenges list ∷ the_replies sent ∷ held ∷ more) h e = h.1.1.1
 sound_vendor image challenges trace id provider map (an_image value ∷ the_challenges list ∷ third ∷ more) h e = h.1.1.0.is
 sound_vendor image challenges trace id provider map (an_image value ∷ second ∷ third ∷ more) h e = h.1.0.is
 sound_vendor image challenges trace id provider map (held ∷ second ∷ third ∷ more) h e = h.0.is
 
-some_check : (value : Image) (o : Option Module) → is_some o ≡ true → balanced_by value [] o ≡ nothing → ⊥
-some_check value None s e = cc
-some_check value (Some m) s e = cc
-
 sound_check : (name : Text) (id : ℕ) → Sound (check_command name id)
 sound_check name id map [] h e = h
-sound_check name id map (an_image value ∷ []) h e = some_check value (module_of id value.table) h.0.is.1 e
+sound_check name id map (an_image value ∷ []) h e = some_module (λ m. check_outcome value m []) (module_of id value.table) h.0.is.1 (λ m e. cc) e
 sound_check name id map (an_image value ∷ held ∷ more) h e = h.1
 sound_check name id map (held ∷ more) h e = h.0.is
-
-some_balance : (value : Image) (arms : List Arm) (o : Option Module) → is_some o ≡ true → balanced_by value arms o ≡ nothing → ⊥
-some_balance value arms None s e = cc
-some_balance value arms (Some m) s e = cc
 
 sound_balance : (name : Text) (id : ℕ) (arms : Text) → Sound (balance_command name id arms)
 sound_balance name id arms map [] h e = h
 sound_balance name id arms map (held ∷ []) h e = h.1
-sound_balance name id arms map (an_image value ∷ certificates own ∷ []) h e = some_balance value own (module_of id value.table) h.0.is.1 e
+sound_balance name id arms map (an_image value ∷ certificates own ∷ []) h e = some_module (λ m. balance_outcome value m (certificates own ∷ [])) (module_of id value.table) h.0.is.1 (λ m e. cc) e
 sound_balance name id arms map (an_image value ∷ certificates own ∷ held ∷ more) h e = h.1.1
 sound_balance name id arms map (an_image value ∷ second ∷ more) h e = h.1.0.is
 sound_balance name id arms map (held ∷ second ∷ more) h e = h.0.is
@@ -125,13 +113,9 @@ sound_run name schedule cycles objects map (a_layout layout ∷ more) h e =
     (λ image e. cc)) e
 sound_run name schedule cycles objects map (held ∷ more) h e = h.0.is
 
-some_lone : (value : Image) (registers : List ℕ) (limit : ℕ) (o : Option Module) → is_some o ≡ true → lone_by value registers limit o ≡ nothing → ⊥
-some_lone value registers limit None s e = cc
-some_lone value registers limit (Some m) s e = cc
-
 sound_lone : (name : Text) (id limit : ℕ) (registers : List ℕ) → Sound (lone_command name id limit registers)
 sound_lone name id limit registers map [] h e = h
-sound_lone name id limit registers map (an_image value ∷ []) h e = some_lone value registers limit (module_of id value.table) h.0.is.1 e
+sound_lone name id limit registers map (an_image value ∷ []) h e = some_module (λ m. lone_outcome limit registers value m []) (module_of id value.table) h.0.is.1 (λ m e. cc) e
 sound_lone name id limit registers map (an_image value ∷ held ∷ more) h e = h.1
 sound_lone name id limit registers map (held ∷ more) h e = h.0.is
 
@@ -185,7 +169,7 @@ of_check (name ∷ id ∷ []) = if_map (check_command name) (id_of id) (sound_ch
 of_check _ = if_none
 
 of_balance : (vs : List Text) → IfSound (read_balance vs)
-of_balance (name ∷ id ∷ arms ∷ []) = if_map (balance_in name arms) (id_of id) (λ n. sound_balance name n arms)
+of_balance (name ∷ id ∷ arms ∷ []) = if_map (λ n. balance_command name n arms) (id_of id) (λ n. sound_balance name n arms)
 of_balance _ = if_none
 
 of_run : (vs : List Text) → IfSound (read_run vs)

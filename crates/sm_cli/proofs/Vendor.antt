@@ -16,9 +16,10 @@ use Rattle.cli_files.specs.declared.answers.Status.TheVariants.{Done}
 use Rattle.cli_files.specs.Files.{Held, an_image, the_challenges, the_replies, Need, need, trace_file, HoldAll, most_bytes}
 use Rattle.cli_calls.specs.Command.{Answer}
 use Rattle.sm_cli.specs.Joins.{AreTagged, VendorTells}
-use Rattle.sm_cli.specs.VendorCommand.{key_under, report_answer, report_by, report_status, vendor_command}
+use Rattle.sm_cli.specs.VendorCommand.{key_under, report_answer, report_status, vendor_command, vendor_outcome}
 use Rattle.cli_calls.proofs.Outcomes.{one_answer}
 use Rattle.cli_calls.proofs.Given.{gives_answer}
+use Rattle.sm_cli.proofs.OfModule.{of_module}
 
 -- ---- all are genuine exactly where all are tagged
 
@@ -90,7 +91,7 @@ vendor_tells read law files image challenges replies id provider value ran owner
     let answer = gives_answer (Some files) (vendor_command image challenges replies id provider) (report_answer key list bytes) (record {
       helds = an_image value ∷ the_challenges list ∷ the_replies bytes ∷ [];
       hold = (held, (sent, (record { bytes = trace ran schedule cycles; file = file; short = short; is = read ran schedule cycles machine small }, tt)));
-      is = ap (report_by provider value list bytes) owned;
+      is = of_module (vendor_outcome provider) value id owner (the_challenges list ∷ the_replies bytes ∷ []) owned;
     }) in
     let same = one_answer files (vendor_command image challenges replies id provider) (report_answer key list bytes) told answer a in
     subst (λ (x : Answer). (x.status ≡ Done) ↔ AreTagged key bytes list) same (done_if_tagged law key bytes list)

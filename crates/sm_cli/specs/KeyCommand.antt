@@ -1,16 +1,16 @@
 -- `key IMAGE ID`: the key of a module's vendor, and the module's.
 use Rattle.std.specs.Prelude.{ℕ, List, [], ◌∷◌, ◌++◌, Option, None, codes}
-use Rattle.std.specs.Option.{option_map, option_map_or}
+use Rattle.std.specs.Option.{option_map}
 use Rattle.texts.specs.Hexadecimals.{hex_key}
 use Rattle.mod_layout.specs.declared.Module.{Module}
-use Rattle.mod_layout.specs.Table.{module_of}
 use Rattle.mod_keys.specs.Keys.{provider_key, module_key}
 use Rattle.image_text.specs.Image.{Image}
 use Rattle.written_machine.specs.Peers.{section}
 use Rattle.cli_calls.specs.Words.{Text}
 use Rattle.cli_calls.specs.Ids.{id_of}
-use Rattle.cli_files.specs.Files.{Held, an_image, image_with, need}
+use Rattle.cli_files.specs.Files.{Held, image_with, need}
 use Rattle.cli_calls.specs.Command.{Outcome, done, nothing, Command}
+use Rattle.sm_cli.specs.ModuleCommand.{with_module}
 
 -- the line of a key
 abbrev pub named_key_line : List ℕ → List ℕ → List ℕ
@@ -22,15 +22,12 @@ two_lines provider key = named_key_line (codes "provider ") provider ++ named_ke
 abbrev pub key_lines : Image → Module → List ℕ
 key_lines value m = two_lines (provider_key value.node_key m.vendor) (module_key value.node_key m (section m.text value.memory))
 
-abbrev pub keys_by : Image → Option Module → Outcome
-keys_by value owner = option_map_or (λ m. done (key_lines value m)) owner nothing
-
-abbrev pub key_outcome : ℕ → List Held → Outcome
-key_outcome id (an_image value ∷ []) = keys_by value (module_of id value.table)
-key_outcome id _ = nothing
+abbrev pub key_outcome : Image → Module → List Held → Outcome
+key_outcome value m [] = done (key_lines value m)
+key_outcome value m _ = nothing
 
 abbrev pub key_command : Text → ℕ → Command
-key_command name id = record { needs = need name (image_with id) ∷ []; outcome = key_outcome id }
+key_command name id = record { needs = need name (image_with id) ∷ []; outcome = with_module id key_outcome }
 
 abbrev pub read_key : List Text → Option Command
 read_key (name ∷ id ∷ []) = option_map (key_command name) (id_of id)

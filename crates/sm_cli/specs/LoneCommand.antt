@@ -1,11 +1,9 @@
 -- `lone IMAGE ID LIMIT PAIR..`: how a call of a module by itself ends.
 use Rattle.std.specs.Prelude.{ℕ, List, [], ◌∷◌, ◌++◌, Option, Some, None, codes}
 use Rattle.std.specs.Fmt.{decimal}
-use Rattle.std.specs.Option.{option_map_or}
 use Rattle.sm_words.specs.Words.{put}
 use Rattle.sm_words.specs.declared.registers.TheConstants.{PC}
 use Rattle.mod_layout.specs.declared.Module.{Module}
-use Rattle.mod_layout.specs.Table.{module_of}
 use Rattle.image_text.specs.Image.{Image}
 use Rattle.tracer.specs.Lines.{registers_from}
 use Rattle.written_machine.specs.Peers.{section}
@@ -20,8 +18,9 @@ use Rattle.cli_calls.specs.Ids.{id_of}
 use Rattle.cli_calls.specs.Values.{read_cycles}
 use Rattle.sm_cli.specs.Numbers.{number_line}
 use Rattle.sm_cli.specs.Pairs.{pairs_in, core_with}
-use Rattle.cli_files.specs.Files.{Held, an_image, image_with, need}
+use Rattle.cli_files.specs.Files.{Held, image_with, need}
 use Rattle.cli_calls.specs.Command.{Answer, Outcome, gives, nothing, Command}
+use Rattle.sm_cli.specs.ModuleCommand.{with_module}
 
 -- the caller's id where no module calls
 abbrev pub no_caller : ℕ
@@ -50,16 +49,12 @@ lone_end_line limit Running = number_line (codes "running ") limit
 abbrev pub end_answer : ℕ → End → Answer
 end_answer limit end = record { text = lone_end_line limit end; status = status.Done }
 
-abbrev pub lone_by : Image → List ℕ → ℕ → Option Module → Outcome
-lone_by value registers limit owner =
-    option_map_or (λ m. gives (end_answer limit (call_answer (lone_end value m registers limit)))) owner nothing
-
-abbrev pub lone_outcome : ℕ → ℕ → List ℕ → List Held → Outcome
-lone_outcome id limit registers (an_image value ∷ []) = lone_by value registers limit (module_of id value.table)
-lone_outcome id limit registers _ = nothing
+abbrev pub lone_outcome : ℕ → List ℕ → Image → Module → List Held → Outcome
+lone_outcome limit registers value m [] = gives (end_answer limit (call_answer (lone_end value m registers limit)))
+lone_outcome limit registers value m _ = nothing
 
 abbrev pub lone_command : Text → ℕ → ℕ → List ℕ → Command
-lone_command name id limit registers = record { needs = need name (image_with id) ∷ []; outcome = lone_outcome id limit registers }
+lone_command name id limit registers = record { needs = need name (image_with id) ∷ []; outcome = with_module id (lone_outcome limit registers) }
 
 abbrev pub lone_with : Text → Option ℕ → Option ℕ → Option (List Pair) → Option Command
 lone_with name (Some id) (Some limit) (Some pairs) = Some (lone_command name id limit (core_with pairs))

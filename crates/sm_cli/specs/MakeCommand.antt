@@ -36,16 +36,12 @@ runs_text seed cycles first second = number_line (codes "seed ") seed ++ (run_te
 unfoldable pub run_start : ℕ → ℕ → State
 run_start seed word = boot (image word) (pulses seed COUNT)
 
--- the first run's data
-abbrev pub first_data : ℕ
-first_data = 0
-
--- the second run's data are the low word of the number after the seed
+-- the first run's data are 0, the second's the low word of the number after the seed
 abbrev pub second_data : ℕ → ℕ
 second_data seed = next_number seed % 65536
 
 unfoldable pub make_text : ℕ → List ℕ
-make_text seed = runs_text seed CYCLES (run_start seed first_data) (run_start seed (second_data seed))
+make_text seed = runs_text seed CYCLES (run_start seed 0) (run_start seed (second_data seed))
 
 abbrev pub make_command : ℕ → Command
 make_command seed = record { needs = []; outcome = λ helds. done (make_text seed) }

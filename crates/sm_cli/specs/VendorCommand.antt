@@ -1,9 +1,8 @@
 -- `vendor IMAGE ID PROVIDER CHALLENGES TRACE`: a vendor's report on the replies to its challenges.
 use Rattle.std.specs.Prelude.{ℕ, Bool, true, false, List, [], ◌∷◌, Option, None, option_and_then}
-use Rattle.std.specs.Option.{option_map, option_map_or}
+use Rattle.std.specs.Option.{option_map}
 use Rattle.texts.specs.Hexadecimals.{read_hex_key}
 use Rattle.mod_layout.specs.declared.Module.{Module}
-use Rattle.mod_layout.specs.Table.{module_of}
 use Rattle.mod_keys.specs.Keys.{module_key_from}
 use Rattle.image_text.specs.Image.{Image}
 use Rattle.vendor_tool.specs.declared.Challenge.{Challenge}
@@ -13,8 +12,9 @@ use Rattle.cli_files.specs.declared.answers.Status.{Status}
 use Rattle.cli_files.specs.declared.answers.Status.TheVariants as status
 use Rattle.cli_calls.specs.Words.{Text}
 use Rattle.cli_calls.specs.Ids.{id_of}
-use Rattle.cli_files.specs.Files.{Held, an_image, the_challenges, the_replies, image_with, challenges_file, trace_file, Need, need}
+use Rattle.cli_files.specs.Files.{Held, the_challenges, the_replies, image_with, challenges_file, trace_file, Need, need}
 use Rattle.cli_calls.specs.Command.{Answer, Outcome, gives, nothing, Command}
+use Rattle.sm_cli.specs.ModuleCommand.{with_module}
 
 -- the status of a report where all are genuine, or not
 abbrev pub report_status : Bool → Status
@@ -29,20 +29,16 @@ report_answer key challenges sent = record { text = report_text key challenges s
 abbrev pub key_under : List ℕ → Image → Module → List ℕ
 key_under provider value m = module_key_from provider m (section m.text value.memory)
 
-abbrev pub report_by : List ℕ → Image → List Challenge → List ℕ → Option Module → Outcome
-report_by provider value challenges sent owner =
-    option_map_or (λ m. gives (report_answer (key_under provider value m) challenges sent)) owner nothing
-
-abbrev pub vendor_outcome : ℕ → List ℕ → List Held → Outcome
-vendor_outcome id provider (an_image value ∷ the_challenges list ∷ the_replies sent ∷ []) = report_by provider value list sent (module_of id value.table)
-vendor_outcome id provider _ = nothing
+abbrev pub vendor_outcome : List ℕ → Image → Module → List Held → Outcome
+vendor_outcome provider value m (the_challenges list ∷ the_replies sent ∷ []) = gives (report_answer (key_under provider value m) list sent)
+vendor_outcome provider value m _ = nothing
 
 -- the files of challenges and of a trace
 abbrev pub exchange_needs : Text → Text → List Need
 exchange_needs challenges trace = need challenges challenges_file ∷ need trace trace_file ∷ []
 
 abbrev pub vendor_command : Text → Text → Text → ℕ → List ℕ → Command
-vendor_command image challenges trace id provider = record { needs = need image (image_with id) ∷ exchange_needs challenges trace; outcome = vendor_outcome id provider }
+vendor_command image challenges trace id provider = record { needs = need image (image_with id) ∷ exchange_needs challenges trace; outcome = with_module id (vendor_outcome provider) }
 
 abbrev pub read_vendor : List Text → Option Command
 read_vendor (image ∷ id ∷ provider ∷ challenges ∷ trace ∷ []) =

@@ -1,7 +1,7 @@
 //! `make SEED`: two runs of the workload of a seed.
 ghost use Rattle.std.specs.Prelude.{◌≡◌, ◌≤◌, IfOk};
 ghost use Rattle.sm_io.specs.Sink.{Puts};
-ghost use Rattle.sm_cli.specs.MakeCommand.{make_command, read_make, seed_of, events_after, run_text, runs_text, run_start, first_data, second_data};
+ghost use Rattle.sm_cli.specs.MakeCommand.{make_command, read_make, seed_of, events_after, run_text, runs_text, run_start, second_data};
 ghost use Rattle.sm_cli.specs.Numbers.{number_line};
 ghost use Rattle.written_machine.specs.Cycle.{after_cycles};
 ghost use Rattle.written_machine.specs.Marks.{unmarked};
@@ -86,7 +86,7 @@ struct Boards {
 // Makes both machines of a seed.
 #[tactic(auto, unfolding(crate::specs::MakeCommand::run_start))]
 fn boards_of(alloc: Global, seed: u32) -> Result<Boards, NoMemory>
-    ensures first { IfOk result (λ b. b.first ≡ unmarked 0 (run_start seed first_data)) }
+    ensures first { IfOk result (λ b. b.first ≡ unmarked 0 (run_start seed 0)) }
     ensures second { IfOk result (λ b. b.second ≡ unmarked 0 (run_start seed (second_data seed))) }
 {
     let second_data = workload::next(u64::from(seed)) % WORDS;

@@ -1,9 +1,10 @@
 use Rattle.std.proofs.Common.{[], ◌∷◌, refl, ap, subst}
 use Rattle.flow_rule.specs.Terms.{no_terms}
 use Rattle.written_machine.specs.Peers.{section}
-use Rattle.sm_cli.specs.BalanceCommand.{balanced_by}
+use Rattle.sm_cli.specs.BalanceCommand.{balance_outcome}
 use Rattle.cli_calls.specs.Command.{judges, verdict_answer}
 use Rattle.cli_files.specs.Files.{an_image, certificates, arms_file, need, Holds}
+use Rattle.sm_cli.proofs.OfModule.{of_module}
 use Rattle.sm_cli.proofs.commands.balance.BalanceCommandAnswering.answer.Goals as goal
 
 pub returns-in-Ok-verdict_with-clause-ok : goal.returns-in-Ok-verdict_with-clause-ok
@@ -16,7 +17,7 @@ returns-in-Ok-verdict_with-clause-ok g c =
       answer = verdict_answer verdict;
       served = record {
         outcome = judges no_terms chosen.«module» (section chosen.«module».text chosen.image.memory) arms;
-        comes = record { helds = an_image chosen.image ∷ certificates arms ∷ []; hold = (c.in-Ok.ensures.holds, (held, tt)); is = ap (balanced_by chosen.image arms) c.in-Ok.ensures.chosen };
+        comes = record { helds = an_image chosen.image ∷ certificates arms ∷ []; hold = (c.in-Ok.ensures.holds, (held, tt)); is = of_module balance_outcome chosen.image c.args.self.now.id chosen.«module» (certificates arms ∷ []) c.in-Ok.ensures.chosen };
         is = record { verdict = verdict; is = c.in-Ok-verdict_with.ensures; tells = refl };
       };
       sound = tt;

@@ -1,9 +1,10 @@
 use Rattle.std.proofs.Common.{[], ◌∷◌, refl, ap}
 use Rattle.flow_rule.specs.Terms.{no_terms}
 use Rattle.written_machine.specs.Peers.{section}
-use Rattle.sm_cli.specs.BalanceCommand.{balanced_by}
+use Rattle.sm_cli.specs.CheckCommand.{check_outcome}
 use Rattle.cli_calls.specs.Command.{judges, verdict_answer}
 use Rattle.cli_files.specs.Files.{an_image}
+use Rattle.sm_cli.proofs.OfModule.{of_module}
 use Rattle.sm_cli.proofs.commands.check.CheckCommandAnswering.answer.Goals as goal
 
 pub returns-in-Ok-verdict_of-clause-ok : goal.returns-in-Ok-verdict_of-clause-ok
@@ -14,7 +15,7 @@ returns-in-Ok-verdict_of-clause-ok g c =
       answer = verdict_answer verdict;
       served = record {
         outcome = judges no_terms chosen.«module» (section chosen.«module».text chosen.image.memory) [];
-        comes = record { helds = an_image chosen.image ∷ []; hold = (c.in-Ok.ensures.holds, tt); is = ap (balanced_by chosen.image []) c.in-Ok.ensures.chosen };
+        comes = record { helds = an_image chosen.image ∷ []; hold = (c.in-Ok.ensures.holds, tt); is = of_module check_outcome chosen.image c.args.self.now.id chosen.«module» [] c.in-Ok.ensures.chosen };
         is = record { verdict = verdict; is = c.in-Ok-verdict_of.ensures; tells = refl };
       };
       sound = tt;

@@ -4,8 +4,9 @@ use Rattle.sm_io.specs.Sink.{Took, CutOff}
 use Rattle.std.specs.Prelude.{Option}
 use Rattle.cli_files.specs.Files.{an_image, the_challenges, the_replies, need, challenges_file, trace_file, Holds}
 use Rattle.cli_calls.specs.Runs.{EndsAs}
-use Rattle.sm_cli.specs.VendorCommand.{vendor_command, key_under, report_answer, report_by}
+use Rattle.sm_cli.specs.VendorCommand.{vendor_command, key_under, report_answer, vendor_outcome}
 use Rattle.cli_calls.proofs.Given.{gives_answer}
+use Rattle.sm_cli.proofs.OfModule.{of_module}
 use Rattle.sm_cli.proofs.commands.vendor.VendorCommandAnswering.answer.Goals as goal
 
 pub returns-clause-ok : goal.returns-clause-ok
@@ -23,7 +24,7 @@ returns-clause-ok g c =
       served = gives_answer files (vendor_command own.image.now own.challenges.now own.trace.now own.id own.provider) told (record {
         helds = an_image chosen.image ∷ the_challenges list ∷ the_replies sent ∷ [];
         hold = (c.in-Ok.ensures.holds, (challenges, (replies, tt)));
-        is = ap (report_by own.provider chosen.image list sent) c.in-Ok.ensures.chosen;
+        is = of_module (vendor_outcome own.provider) chosen.image own.id chosen.«module» (the_challenges list ∷ the_replies sent ∷ []) c.in-Ok.ensures.chosen;
       });
       sound = tt;
       ends = subst (λ (key : List ℕ). EndsAs c.put_report.result (report_answer key list sent) (Took g.O.Sink.taken g.O.Sink.faults g.O.Sink.sure c.args.out.now c.put_report.new.out) (CutOff g.O.Sink.taken g.O.Sink.faults g.O.Sink.sure c.args.out.now c.put_report.new.out)) c.key_of-key.ensures c.put_report.ensures;
