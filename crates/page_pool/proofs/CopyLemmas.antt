@@ -1,10 +1,11 @@
 -- A place that shares its page gets one of its own.
-use Rattle.std.proofs.Common.{◌≡◌, ◌≢◌, ℕ, ◌+◌, ◌-◌, ◌<◌, ◌≤◌, true, cond, eqb, List, [], length, get_or, Some, All, sum, count_by, sym, refl, ap, ◌∙◌, subst, ⊎_elim, arith}
+use Rattle.std.proofs.Common.{◌≡◌, ◌≢◌, ℕ, ◌+◌, ◌-◌, ◌<◌, ◌≤◌, true, cond, eqb, List, [], length, get_or, take, slice_get, Some, All, sum, count_by, sym, refl, ap, ◌∙◌, subst, ⊎_elim, arith}
 use Rattle.std.proofs.Math.ListN.{set}
 use Rattle.std.proofs.lemmas.List.Sums.{sum_by-set, get_or-le-sum_by, count_by-le-length}
-use Rattle.std.proofs.lemmas.List.{get_or-set_same, get_or-set_other, length-set}
+use Rattle.std.proofs.lemmas.List.{get_or-set_same, get_or-set_other, get_or-take, get_or_default, length-set, length-take-le}
 use Rattle.std.proofs.lemmas.Bool.Decides.{eqb_tells}
-use Rattle.std.proofs.lemmas.List.Elements.{All-get_or, All-set}
+use Rattle.std.proofs.lemmas.List.Elements.{All-from_get_or, All-get_or, All-set}
+use Rattle.std.proofs.lemmas.Option.{get_or_from_slice_get, slice_get-get_or, slice_get_within}
 use Rattle.page_pool.specs.declared.store.Table.{Table}
 use Rattle.page_pool.specs.internal.Naming.{names_of, bytes_at, table_at, tables_at, IsCounted}
 use Rattle.page_pool.specs.internal.Counts.{times_in, IsFree}
@@ -66,14 +67,44 @@ counts_after-get_or counts shared page p hs hp zero_there two =
 
 -- ---- the free pages
 
+free_page : (counts free : List ℕ) (spare i : ℕ) → IsFree counts free spare → i < spare → slice_get counts (get_or free i 0) ≡ Some 0
+free_page counts free spare i f h =
+    subst (λ (page : ℕ). slice_get counts page ≡ Some 0) (get_or-take spare free i 0 h)
+    (All-get_or (λ page. slice_get counts page ≡ Some 0) (take spare free) i 0 (rw (length-take-le spare free f.room) h) f.unnamed)
+
+pub free_inside : (counts free : List ℕ) (spare i : ℕ) → IsFree counts free spare → i < spare → get_or free i 0 < length counts
+free_inside counts free spare i f h = slice_get_within counts (get_or free i 0) 0 (free_page counts free spare i f h)
+
+pub free_unnamed : (counts free : List ℕ) (spare i : ℕ) → IsFree counts free spare → i < spare → get_or counts (get_or free i 0) 0 ≡ 0
+free_unnamed counts free spare i f h = get_or_from_slice_get counts (get_or free i 0) 0 0 (free_page counts free spare i f h)
+
+pub free_once : (counts free : List ℕ) (spare i j : ℕ) → IsFree counts free spare → i < j → j < spare → get_or free i 0 ≢ get_or free j 0
+free_once counts free spare i j f h k e =
+    f.once i j 0 h (rw (length-take-le spare free f.room) k) (get_or-take spare free i 0 (omega arith) ∙ e ∙ sym (get_or-take spare free j 0 k))
+
+pub are_free : (counts free : List ℕ) (spare : ℕ) → spare ≤ length free → spare ≡ count_by (λ count. eqb count 0) counts
+    → ((i : ℕ) → i < spare → get_or free i 0 < length counts) → ((i : ℕ) → i < spare → get_or counts (get_or free i 0) 0 ≡ 0)
+    → ((i j : ℕ) → i < j → j < spare → get_or free i 0 ≢ get_or free j 0) → IsFree counts free spare
+are_free counts free spare room number inside unnamed once =
+    let long : length (take spare free) ≡ spare = length-take-le spare free room in
+    let same : (i d : ℕ) → i < spare → get_or free i 0 ≡ get_or (take spare free) i d = λ i d h. get_or_default free i 0 d (omega arith) ∙ sym (get_or-take spare free i d h) in
+    record {
+      room = room;
+      number = number;
+      unnamed = All-from_get_or (λ page. slice_get counts page ≡ Some 0) (take spare free) 0
+          (λ i l. let h : i < spare = omega arith in
+          rw (get_or-take spare free i 0 h, slice_get-get_or counts (get_or free i 0) 0 (inside i h), unnamed i h) refl);
+      once = λ i j d h l e. once i j h (omega arith) (same i d (omega arith) ∙ e ∙ sym (same j d (omega arith)));
+    }
+
 pub free_after : (counts free : List ℕ) (spare shared : ℕ) → IsFree counts free spare → 1 ≤ spare → shared < length counts → 2 ≤ get_or counts shared 0
     → IsFree (counts_after counts shared (get_or free (spare - 1) 0)) free (spare - 1)
 free_after counts free spare shared f some hs two =
     let page = get_or free (spare - 1) 0 in
     let first = set counts shared (get_or counts shared 0 - 1) in
     let last : spare - 1 < spare = omega arith in
-    let inside : page < length counts = f.inside (spare - 1) last in
-    let none : get_or counts page 0 ≡ 0 = f.unnamed (spare - 1) last in
+    let inside : page < length counts = free_inside counts free spare (spare - 1) f last in
+    let none : get_or counts page 0 ≡ 0 = free_unnamed counts free spare (spare - 1) f last in
     let apart : page ≢ shared = λ e. absurd (let g : get_or counts shared 0 ≡ 0 = subst (λ (x : ℕ). get_or counts x 0 ≡ 0) e none in omega arith) in
     let long : length first ≡ length counts = length-set counts shared (get_or counts shared 0 - 1) in
     let longer : length (counts_after counts shared page) ≡ length first = length-set first page 1 in
@@ -86,17 +117,14 @@ free_after counts free spare shared f some hs two =
     let nd = not_zero 1 (omega arith) in
     let number : spare ≡ count_by (λ count. eqb count 0) counts = f.number in
     let room : spare ≤ length free = f.room in
-    record {
-      room = omega arith;
-      number = omega arith;
-      inside = λ i h. let g = f.inside i (omega arith) in omega arith;
-      unnamed = λ i h.
-          let other : get_or free i 0 ≢ page = f.once i (spare - 1) h last in
-          let zero_i : get_or counts (get_or free i 0) 0 ≡ 0 = f.unnamed i (omega arith) in
-          let away : get_or free i 0 ≢ shared = λ e. absurd (let g : get_or counts shared 0 ≡ 0 = subst (λ (x : ℕ). get_or counts x 0 ≡ 0) e zero_i in omega arith) in
-          get_or-set_other first page (get_or free i 0) 1 0 other ∙ get_or-set_other counts shared (get_or free i 0) (get_or counts shared 0 - 1) 0 away ∙ zero_i;
-      once = λ i j h k. f.once i j h (omega arith);
-    }
+    are_free (counts_after counts shared page) free (spare - 1) (omega arith) (omega arith)
+    (λ i h. let g = free_inside counts free spare i f (omega arith) in omega arith)
+    (λ i h.
+    let other : get_or free i 0 ≢ page = free_once counts free spare i (spare - 1) f h last in
+    let zero_i : get_or counts (get_or free i 0) 0 ≡ 0 = free_unnamed counts free spare i f (omega arith) in
+    let away : get_or free i 0 ≢ shared = λ e. absurd (let g : get_or counts shared 0 ≡ 0 = subst (λ (x : ℕ). get_or counts x 0 ≡ 0) e zero_i in omega arith) in
+    get_or-set_other first page (get_or free i 0) 1 0 other ∙ get_or-set_other counts shared (get_or free i 0) (get_or counts shared 0 - 1) 0 away ∙ zero_i)
+    (λ i j h k. free_once counts free spare i j f h (omega arith))
 
 pub sum_set : (counts : List ℕ) (i c : ℕ) → i < length counts → sum (set counts i c) + get_or counts i 0 ≡ sum counts + c
 sum_set counts i c h = sum_by-set (λ (x : ℕ). x) counts i c 0 h
@@ -137,8 +165,8 @@ copy_counted pages counts tables free spare t n shared d k there live small name
     let hs : shared < length counts = omega arith in
     let some : 1 ≤ spare = spare_some pages counts tables free spare shared k hs two in
     let last : spare - 1 < spare = omega arith in
-    let page_in : page < length counts = k.spared.inside (spare - 1) last in
-    let none : get_or counts page 0 ≡ 0 = k.spared.unnamed (spare - 1) last in
+    let page_in : page < length counts = free_inside counts free spare (spare - 1) k.spared last in
+    let none : get_or counts page 0 ≡ 0 = free_unnamed counts free spare (spare - 1) k.spared last in
     let long_first : length first ≡ length counts = length-set counts shared (get_or counts shared 0 - 1) in
     let long : length (counts_after counts shared page) ≡ length first = length-set first page 1 in
     let pages_long : length (set pages page (get_or pages shared [])) ≡ length pages = length-set pages page (get_or pages shared []) in
@@ -191,8 +219,8 @@ copy_same pages counts tables free spare t n shared d k there live small names t
     let shared_in : shared < length pages = subst (λ (y : ℕ). y < length pages) names (All-get_or (λ place. place < length pages) u.places n 0 (omega arith) inside_u) in
     let some : 1 ≤ spare = spare_some pages counts tables free spare shared k (omega arith) two in
     let last : spare - 1 < spare = omega arith in
-    let page_in : page < length counts = k.spared.inside (spare - 1) last in
-    let none : get_or counts page 0 ≡ 0 = k.spared.unnamed (spare - 1) last in
+    let page_in : page < length counts = free_inside counts free spare (spare - 1) k.spared last in
+    let none : get_or counts page 0 ≡ 0 = free_unnamed counts free spare (spare - 1) k.spared last in
     let page_there : page < length pages = omega arith in
     let all_none : names_of page tables ≡ 0 = sym (k.counted page page_there) ∙ none in
     let of_u : names_in page u ≤ names_of page tables = get_or-le-sum_by (names_in page) tables t d there in

@@ -5,7 +5,7 @@ use Rattle.std.proofs.lemmas.List.Sums.{sum_by_more, sum_by-take-le, count_by-le
 use Rattle.std.proofs.lemmas.List.{get_or-set_same, get_or-set_other, length-set}
 use Rattle.std.proofs.lemmas.Bool.Decides.{eqb_tells}
 use Rattle.page_pool.specs.internal.Counts.{times_in, IsFree}
-use Rattle.page_pool.proofs.CopyLemmas.{zeros_set, not_zero, is_zero, same_page, other_page, sum_set}
+use Rattle.page_pool.proofs.CopyLemmas.{are_free, free_inside, free_once, free_unnamed, zeros_set, not_zero, is_zero, same_page, other_page, sum_set}
 
 -- one more place is looked at
 pub times_in_more : (page : ℕ) (places : List ℕ) (i place : ℕ) → i < length places → place ≡ get_or places i 0
@@ -113,18 +113,16 @@ lowered_free before counts places free spare i place count long room h e inside 
     let fits : spare < length free = omega arith in
     let new : get_or free_after spare 0 ≡ place = get_or-set_same free spare place 0 fits in
     let old : (k : ℕ) → k < spare → get_or free_after k 0 ≡ get_or free k 0 = λ k l. get_or-set_other free spare k place 0 (λ g. absurd (omega arith)) in
-    let differs : (k : ℕ) → k < spare → get_or free k 0 ≢ place = λ k l g. absurd (let q : get_or counts place 0 ≡ 0 = subst (λ (x : ℕ). get_or counts x 0 ≡ 0) g (f.unnamed k l) in omega arith) in
+    let differs : (k : ℕ) → k < spare → get_or free k 0 ≢ place = λ k l g. absurd (let q : get_or counts place 0 ≡ 0 = subst (λ (x : ℕ). get_or counts x 0 ≡ 0) g (free_unnamed counts free spare k f l) in omega arith) in
     let here : get_or after place 0 ≡ 0 = get_or-set_same counts place count 0 (omega arith) ∙ none in
     record {
       counted = λ page. subst (λ (cs : List ℕ). get_or cs page 0 + times_in page (take (i + 1) places) ≡ get_or before page 0) after_is (counted page);
       total = omega arith;
-      spared = record {
-        room = omega arith;
-        number = omega arith;
-        inside = λ k l. lower_or_last (λ x. x < length after) free_after spare k place l new (λ m. rw (old k m) (let g = f.inside k m in omega arith)) (omega arith);
-        unnamed = λ k l. lower_or_last (λ x. get_or after x 0 ≡ 0) free_after spare k place l new (λ m. rw (old k m) (get_or-set_other counts place (get_or free k 0) count 0 (differs k m) ∙ f.unnamed k m)) here;
-        once = λ k j l m. once_more free free_after spare place new old differs f.once k j l m;
-      };
+      spared = are_free after free_after (spare + 1) (omega arith) (omega arith)
+          (λ k l. lower_or_last (λ x. x < length after) free_after spare k place l new (λ m. rw (old k m) (let g = free_inside counts free spare k f m in omega arith)) (omega arith))
+          (λ k l. lower_or_last (λ x. get_or after x 0 ≡ 0) free_after spare k place l new
+          (λ m. rw (old k m) (get_or-set_other counts place (get_or free k 0) count 0 (differs k m) ∙ free_unnamed counts free spare k f m)) here)
+          (λ k j. once_more free free_after spare place new old differs (λ a b. free_once counts free spare a b f) k j);
     }
   where
     -- an entry of the front is one of before, or the new one
@@ -158,17 +156,14 @@ lowered_kept before counts places free spare i place count long h e inside some 
     let t = r.total in
     let number : spare ≡ count_by (λ c. eqb c 0) counts = f.number in
     let long_after : length after ≡ length counts = length-set counts place count in
-    let differs : (k : ℕ) → k < spare → get_or free k 0 ≢ place = λ k l g. absurd (let q : get_or counts place 0 ≡ 0 = subst (λ (x : ℕ). get_or counts x 0 ≡ 0) g (f.unnamed k l) in omega arith) in
+    let differs : (k : ℕ) → k < spare → get_or free k 0 ≢ place = λ k l g. absurd (let q : get_or counts place 0 ≡ 0 = subst (λ (x : ℕ). get_or counts x 0 ≡ 0) g (free_unnamed counts free spare k f l) in omega arith) in
     record {
       counted = λ page. subst (λ (cs : List ℕ). get_or cs page 0 + times_in page (take (i + 1) places) ≡ get_or before page 0) after_is (counted page);
       total = omega arith;
-      spared = record {
-        room = f.room;
-        number = omega arith;
-        inside = λ k l. let g = f.inside k l in omega arith;
-        unnamed = λ k l. get_or-set_other counts place (get_or free k 0) count 0 (differs k l) ∙ f.unnamed k l;
-        once = f.once;
-      };
+      spared = are_free after free spare f.room (omega arith)
+          (λ k l. let g = free_inside counts free spare k f l in omega arith)
+          (λ k l. get_or-set_other counts place (get_or free k 0) count 0 (differs k l) ∙ free_unnamed counts free spare k f l)
+          (λ k j. free_once counts free spare k j f);
     }
 
 -- where a page is named, not all pages are free

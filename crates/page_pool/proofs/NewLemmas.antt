@@ -12,6 +12,7 @@ use Rattle.page_pool.specs.internal.Counts.{times_in, IsFree}
 use Rattle.page_pool.specs.Tables.{zeros}
 use Rattle.page_pool.specs.internal.Naming.{names_of, bytes_at, table_at, tables_at, IsCounted}
 use Rattle.page_pool.proofs.TableLemmas.{names_in}
+use Rattle.page_pool.proofs.CopyLemmas.{are_free}
 
 page_zero : (page n : ℕ) → times_in page (replicate n 0) ≡ n * cond {A = ℕ} (eqb 0 page) 1 0
 page_zero page n = sum_by-replicate (λ q. cond {A = ℕ} (eqb q page) 1 0) n 0
@@ -41,16 +42,13 @@ free_of n counts free least c long falling =
     let moved : count_by (λ count. eqb count 0) (set counts 0 256) + cond {A = ℕ} (eqb (get_or counts 0 0) 0) 1 0 ≡ count_by (λ count. eqb count 0) counts + 0 =
     sum_by-set (λ count. cond {A = ℕ} (eqb count 0) 1 0) counts 0 256 0 (omega arith) in
     let one : cond {A = ℕ} (eqb (get_or counts 0 0) 0) 1 0 ≡ 1 = rw first refl in
-    record {
-      room = omega arith;
-      number = omega arith;
-      inside = λ i h. let f = falling i (omega arith) in omega arith;
-      unnamed = λ i h.
-          let f = falling i (omega arith) in
-          let away : get_or free i 0 ≢ 0 = λ e. absurd (omega arith) in
-          get_or-set_other counts 0 (get_or free i 0) 256 0 away ∙ ap (λ (cs : List ℕ). get_or cs (get_or free i 0) 0) c ∙ get_or-replicate n (get_or free i 0) 0 0 (omega arith);
-      once = λ i j h k e. absurd (let f = falling i (omega arith) in let g = falling j (omega arith) in omega arith);
-    }
+    are_free (set counts 0 256) free (n - 1) (omega arith) (omega arith)
+    (λ i h. let f = falling i (omega arith) in omega arith)
+    (λ i h.
+    let f = falling i (omega arith) in
+    let away : get_or free i 0 ≢ 0 = λ e. absurd (omega arith) in
+    get_or-set_other counts 0 (get_or free i 0) 256 0 away ∙ ap (λ (cs : List ℕ). get_or cs (get_or free i 0) 0) c ∙ get_or-replicate n (get_or free i 0) 0 0 (omega arith))
+    (λ i j h k e. absurd (let f = falling i (omega arith) in let g = falling j (omega arith) in omega arith))
 
 pub new_counted : (pages : List (List ℕ)) (counts : List ℕ) (tables : List Table) (free : List ℕ) (n : ℕ) (table : Table)
     → 1 ≤ n → n ≤ 17

@@ -10,6 +10,7 @@ use Rattle.page_pool.specs.internal.Counts.{times_in, IsFree}
 use Rattle.page_pool.specs.Tables.{table_of}
 use Rattle.page_pool.specs.internal.Naming.{names_of, bytes_at, table_at, tables_at, IsCounted, no_table, page_place, IsLiveIn, IsUnusedIn}
 use Rattle.page_pool.proofs.TableLemmas.{names_in, live_names, live_bytes}
+use Rattle.page_pool.proofs.CopyLemmas.{are_free, free_inside, free_once, free_unnamed}
 use Rattle.page_pool.proofs.StoreLemmas.{places_long, place_inside, place_counted, live_table}
 
 dead_names : (page : ℕ) (live : Bool) (places : List ℕ) → live ≡ false → cond live (times_in page places) 0 ≡ 0
@@ -83,22 +84,19 @@ share_counted pages counts tables free spare t to u after k l n e long counted t
       named = All-set (λ w. All (λ place. place < length pages) w.places) tables to u named_u k.named;
       counted = λ page h. let a = names page in let b = counted page in let c = k.counted page h in omega arith;
       total = omega arith;
-      spared = record {
-        room = k.spared.room;
-        number = k.spared.number ∙ sym zeros;
-        inside = λ i h. let a = k.spared.inside i h in omega arith;
-        unnamed = λ i h.
-            let page = get_or free i 0 in
-            let a : get_or counts page 0 ≡ 0 = k.spared.unnamed i h in
-            let in_range = k.spared.inside i h in
-            let b = k.counted page (omega arith) in
-            let c = get_or-le-sum_by (names_in page) tables t no_table l.there in
-            let d = live_names page (get_or tables t no_table).is_live (get_or tables t no_table).places l.live in
-            let g : times_in page u.places ≡ times_in page (get_or tables t no_table).places = ap (λ (w : Table). times_in page w.places) f in
-            let m = counted page in
-            omega arith;
-        once = k.spared.once;
-      };
+      spared = are_free after free spare k.spared.room (k.spared.number ∙ sym zeros)
+          (λ i h. let a = free_inside counts free spare i k.spared h in omega arith)
+          (λ i h.
+          let page = get_or free i 0 in
+          let a : get_or counts page 0 ≡ 0 = free_unnamed counts free spare i k.spared h in
+          let in_range = free_inside counts free spare i k.spared h in
+          let b = k.counted page (omega arith) in
+          let c = get_or-le-sum_by (names_in page) tables t no_table l.there in
+          let d = live_names page (get_or tables t no_table).is_live (get_or tables t no_table).places l.live in
+          let g : times_in page u.places ≡ times_in page (get_or tables t no_table).places = ap (λ (w : Table). times_in page w.places) f in
+          let m = counted page in
+          omega arith)
+          (λ i j. free_once counts free spare i j k.spared);
     }
 
 pub share_same : (pages : List (List ℕ)) (tables : List Table) (t to : ℕ) (u : Table)

@@ -8,7 +8,7 @@ use Rattle.page_pool.specs.declared.store.Table.{Table}
 use Rattle.page_pool.specs.internal.Naming.{names_of, bytes_at, table_at, tables_at, IsCounted, no_table, page_place, IsLiveIn}
 use Rattle.page_pool.specs.Tables.{table_of}
 use Rattle.page_pool.proofs.TableLemmas.{names_in, named_in, live_bytes, tables_at-set_named}
-use Rattle.page_pool.proofs.CopyLemmas.{spare_some, copy_counted, copy_same}
+use Rattle.page_pool.proofs.CopyLemmas.{spare_some, free_inside, copy_counted, copy_same}
 
 pub places_long : (pages : List (List ℕ)) (counts : List ℕ) (tables : List Table) (free : List ℕ) (spare t : ℕ)
     → IsCounted pages counts tables free spare → IsLiveIn tables t → length (get_or tables t no_table).places ≡ 256
@@ -96,7 +96,7 @@ page_there pages counts tables free spare t n place page k l small shared e f =
     let some = spare_there pages counts tables free spare t n k l small shared in
     let room : spare ≤ length free = k.spared.room in
     let g : place ≡ get_or free (spare - 1) 0 = get_or_read free (spare - 1) place (omega arith) e 0 in
-    let inside = k.spared.inside (spare - 1) (omega arith) in
+    let inside = free_inside counts free spare (spare - 1) k.spared (omega arith) in
     let a = k.counts_length in
     let b = k.pages_length in
     (omega arith, omega arith)
@@ -124,7 +124,7 @@ copied pages counts tables free spare t n table u shared place page count x k l 
     let j : u ≡ get_or tables t no_table = get_or_read tables t u there e_u no_table in
     let counted = copy_counted pages counts tables free spare t n (page_place tables t n) no_table k there l.live small refl (omega arith) in
     let same = copy_same pages counts tables free spare t n (page_place tables t n) no_table k there l.live small refl (omega arith) in
-    let fits : get_or free (spare - 1) 0 < length counts = k.spared.inside (spare - 1) (omega arith) in
+    let fits : get_or free (spare - 1) 0 < length counts = free_inside counts free spare (spare - 1) k.spared (omega arith) in
     let long = length-set counts (page_place tables t n) (get_or counts (page_place tables t n) 0 - 1) in
     record {
       counted = rw (b, g, f, h, i, j) counted;
