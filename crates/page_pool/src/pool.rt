@@ -67,7 +67,8 @@ impl Pool {
         self.store.write(usize::from(t), page, at, byte);
     }
 
-    /// Makes a free table live with the bytes of table `t`, and returns its number. Pages are shared: no byte is copied.
+    /// Makes a free table live with the bytes of table `t`, and returns its number.
+    /// Pages are shared: no byte is copied.
     #[tactic(auto, using(crate::proofs::ViewLemmas::unused_shown, crate::proofs::ViewLemmas::all_shown, crate::proofs::ViewLemmas::not_all_shown))]
     pub fn copy_table(&mut self, t: u16) -> Result<u16, Full>
         requires { IsLive self.old t }
