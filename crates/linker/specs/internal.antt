@@ -1,3 +1,4 @@
+pub mod Numbered
 pub mod Resolved
 pub mod Placed
 pub mod Tables

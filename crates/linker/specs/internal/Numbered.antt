@@ -1,0 +1,6 @@
+-- Numbered objects as values.
+use Rattle.link_symbols.specs.Passes.{NumberedObject}
+use Rattle.linker.specs.declared.memory.Numbered.{Numbered}
+
+abbrev pub numbered_value : Numbered → NumberedObject
+numbered_value x = record { number = x.number; first = x.first; object = x.object.now }
