@@ -1,7 +1,6 @@
 -- What each byte of a linked image is.
-use Rattle.std.proofs.Common.{ℤ, ◌≡◌, ◌≢◌, ◌⊎◌, inl, inr, ℕ, ◌+◌, ◌-◌, ◌*◌, ◌%◌, ◌<◌, ◌≤◌, List, map, drop, length, get_or, replicate, Option, Some, None, Bool, true, false, refl, ap, sym, ◌∙◌, subst, arith, fold, length-take, length-drop}
+use Rattle.std.proofs.Common.{ℤ, ◌≡◌, ◌≢◌, ◌⊎◌, inl, inr, ℕ, ◌+◌, ◌-◌, ◌*◌, ◌<◌, ◌≤◌, List, map, drop, length, get_or, replicate, Option, Some, None, Bool, true, false, refl, ap, sym, ◌∙◌, subst, arith, fold, length-take, length-drop}
 use Rattle.std.specs.Prelude.{All, slice_get, slice_index, if◌then◌else◌}
-use Rattle.std.specs.List.{flat_map}
 use Rattle.std.proofs.lemmas.Bool.{cases_lt}
 use Rattle.std.proofs.lemmas.List.{get_or-take, get_or-drop, length-replicate, get_or-map, get_or-append-add, ext_get_or}
 use Rattle.mod_layout.specs.declared.Section.{Section}
@@ -11,13 +10,11 @@ use Rattle.elf_objects.specs.declared.object.SectionHead.{SectionHead}
 use Rattle.elf_objects.specs.declared.object.Relocation.{Relocation}
 use Rattle.elf_objects.proofs.LawLemmas.{all_sections, all_relocations, all_loaded}
 use Rattle.entry_stubs.specs.Stub.{stub_words, stub_front}
-use Rattle.byteorder.specs.Endian.{little_number}
 use Rattle.layout_file.specs.Overlaps.{ShareNoByte}
-use Rattle.image_text.specs.Image.{Image}
 use Rattle.layout_file.specs.Sound.{IsLayout}
 use Rattle.layout_file.specs.Values.{VectorValue, ModuleValue, LayoutValue}
 use Rattle.reloc_apply.specs.Fields.{row_of, row_size}
-use Rattle.reloc_apply.specs.Applies.{Applies, no_field, a_field, limit_by, row_number}
+use Rattle.reloc_apply.specs.Applies.{Applies, no_field, a_field}
 use Rattle.reloc_apply.proofs.SetsLemmas.{width_within}
 use Rattle.reloc_apply.proofs.AppliesLemmas.{none_at_0}
 use Rattle.link_symbols.specs.declared.item.Item.{Item}
@@ -26,20 +23,20 @@ use Rattle.link_symbols.specs.Passes.{NumberedObject, numbered_objects, part, fo
 use Rattle.link_symbols.specs.Parts.{is_loaded_head, item_of, part_of}
 use Rattle.link_symbols.specs.Resolved.{items_of}
 use Rattle.linker.specs.Placement.{starts_of, address_at, module_stub_size, text_of}
-use Rattle.linker.specs.Numbers.{Linking, linking_of, numbers_in, region_end}
+use Rattle.linker.specs.Numbers.{Linking, linking_of, region_end}
 use Rattle.linker.specs.Bytes.{memory_part, word_bytes}
 use Rattle.linker.specs.Sections.{put_sections}
-use Rattle.linker.specs.Fields.{put_fields, target_address, symbol_sum}
+use Rattle.linker.specs.Fields.{put_fields, target_address}
 use Rattle.linker.specs.Stubs.{word_named, stub_of, put_stub, put_vector}
-use Rattle.linker.specs.Image.{Links, blank_memory, memory_by}
+use Rattle.linker.specs.Image.{blank_memory}
 use Rattle.linker.specs.Refusals.{link_fault_of}
 use Rattle.linker.proofs.ClearLemmas.{zero_at, stub_size_is}
 use Rattle.linker.proofs.FitLemmas.{item_size, some_head}
-use Rattle.linker.proofs.LinkedLemmas.{memory_is, none_over}
+use Rattle.linker.proofs.LinkedLemmas.{none_over}
 use Rattle.linker.proofs.PlaceLemmas.{Goes}
 use Rattle.linker.proofs.RegionLemmas.{items_are_in, ends_kept}
 use Rattle.linker_laws.specs.Places.{Piece, an_item, a_stub, a_stack, the_vectors, span, stub_lies, vectors_lie}
-use Rattle.linker_laws.specs.Contents.{IsLoaded, section_address, field_span, SectionBytes, FieldNumbers, StubBytes, TableWords, VectorWords, IsGiven, by_section, by_stub, by_vector, ZeroElsewhere}
+use Rattle.linker_laws.specs.Contents.{IsLoaded, field_span, IsGiven, by_section, by_stub, by_vector}
 use Rattle.linker_laws.proofs.Conditions.{can_link}
 use Rattle.linker_laws.proofs.FieldBytes as fields
 use Rattle.linker_laws.proofs.Numbered.{later, one_of, section_item}
@@ -99,7 +96,7 @@ module _ (layout : LayoutValue) (objects : List ObjectValue) (kept : IsLayout la
   over : (r : ℕ) → r < count → end r ≤ 65504
   over = ends_kept layout objects kept (none_over layout objects e)
 
-  low : (k : ℕ) → address k ≤ 65536
+  pub low : (k : ℕ) → address k ≤ 65536
   low k = let h = all_low (starts_of layout) items count (items_are_in layout objects) over k in omega (arith, h)
 
   -- ---- items
@@ -312,7 +309,7 @@ module _ (layout : LayoutValue) (objects : List ObjectValue) (kept : IsLayout la
       (λ i d c f j v w t. section_away x (get_or xs i d) k j s (get_or (get_or xs i d).object.sections j v) a h (loaded_at i j d v f w t) (apart_numbers h.number i k j x (get_or xs i d) h.object (gets xs i d f) g.0 c) held)
       ∙ file_byte x.object s n b
 
-  section_bytes : (x : NumberedObject) (k : ℕ) (s : SectionHead) → IsLoaded objects x k s → (n : ℕ) →
+  pub section_bytes : (x : NumberedObject) (k : ℕ) (s : SectionHead) → IsLoaded objects x k s → (n : ℕ) →
       s.bytes.start + n < s.bytes.end →
       All (λ r. holds (field_span layout objects x r) (address (x.first + k) + n) ≡ false) x.object.relocations →
       slice_index whole (address (x.first + k) + n) ≡ slice_index x.object.file (s.bytes.start + n)
@@ -344,7 +341,7 @@ module _ (layout : LayoutValue) (objects : List ObjectValue) (kept : IsLayout la
 
   -- ---- fields
 
-  field_numbers : (n j : ℕ) (x : NumberedObject) (r : Relocation) → slice_get xs n ≡ Some x →
+  pub field_numbers : (n j : ℕ) (x : NumberedObject) (r : Relocation) → slice_get xs n ≡ Some x →
       slice_get x.object.relocations j ≡ Some r →
       ((i : ℕ) (q : Relocation) → j < i → slice_get x.object.relocations i ≡ Some q → ShareNoByte (field_span layout objects x r) (field_span layout objects x q)) →
       fields.IsSet l low x r whole
@@ -441,7 +438,7 @@ module _ (layout : LayoutValue) (objects : List ObjectValue) (kept : IsLayout la
       let n = size_at whole start count (omega (arith, long_whole)) in
       ext_get_or 0 (memory_part whole start count) bytes (n ∙ sym long) (λ i h. let b : i < count = omega (arith, n, h) in read_at whole start count i b ∙ each i b)
 
-  stub_bytes : (i : ℕ) (m : ModuleValue) → slice_get layout.modules i ≡ Some m →
+  pub stub_bytes : (i : ℕ) (m : ModuleValue) → slice_get layout.modules i ≡ Some m →
       memory_part whole m.text.start (module_stub_size m) ≡ words.bytes_of l end i m
   stub_bytes i m f = let h = stub_high i m f in bytes_same m.text.start (module_stub_size m) (words.bytes_of l end i m) (omega (arith, h)) (words.stub_length l end i m) (λ n b. stub_byte i n m f b)
 
@@ -455,7 +452,7 @@ module _ (layout : LayoutValue) (objects : List ObjectValue) (kept : IsLayout la
       get_or-append-add front (map (word_named l) m.entries) k 0
       ∙ (get_or-map (word_named l) m.entries k name 0 h.0 ∙ ap (word_named l) (h.1 name))
 
-  table_words : (i k : ℕ) (m : ModuleValue) (name : List ℕ) → slice_get layout.modules i ≡ Some m →
+  pub table_words : (i k : ℕ) (m : ModuleValue) (name : List ℕ) → slice_get layout.modules i ≡ Some m →
       slice_get m.entries k ≡ Some name →
       memory_part whole (m.text.start + 76 + 2 * k) 2 ≡ word_bytes (word_named l name)
   table_words i k m name f g =
@@ -472,7 +469,7 @@ module _ (layout : LayoutValue) (objects : List ObjectValue) (kept : IsLayout la
 
   -- ---- vectors
 
-  vector_words : (k : ℕ) (v : VectorValue) → slice_get layout.vectors k ≡ Some v →
+  pub vector_words : (k : ℕ) (v : VectorValue) → slice_get layout.vectors k ≡ Some v →
       memory_part whole (65504 + 2 * v.vector) 2 ≡ word_bytes (word_named l v.name)
   vector_words k v f =
       let g = got layout.vectors k v f in
@@ -486,7 +483,7 @@ module _ (layout : LayoutValue) (objects : List ObjectValue) (kept : IsLayout la
 
   -- ---- all else
 
-  zero_elsewhere : (a : ℕ) → (IsGiven layout objects a → ⊥) → slice_index whole a ≡ 0
+  pub zero_elsewhere : (a : ℕ) → (IsGiven layout objects a → ⊥) → slice_index whole a ≡ 0
   zero_elsewhere a none =
       words_keep a
       (λ i d h. let m = get_or layout.modules i d in outside m.text.start (module_stub_size m) a (by_bool _ (λ t. none (by_stub i m (gets layout.modules i d h) t))))
@@ -498,35 +495,3 @@ module _ (layout : LayoutValue) (objects : List ObjectValue) (kept : IsLayout la
       away : (x : NumberedObject) (j : ℕ) (s : SectionHead) → IsLoaded objects x j s →
           Out (address (x.first + j)) (size s) a
       away x j s g = outside (address (x.first + j)) (size s) a (by_bool _ (λ t. none (by_section x j s g t)))
-
--- ---- the laws, of every image that is linked
-
-of_image : (layout : LayoutValue) (objects : List ObjectValue) (image : Image) (P : List ℕ → Type 0) →
-    Links layout objects image →
-    P (memory_by (linking_of layout objects) (region_end layout objects) layout objects blank_memory) → P image.memory
-of_image layout objects image P links h = subst P (sym (memory_is layout objects image links)) h
-
-pub section_bytes_law : SectionBytes
-section_bytes_law layout objects image i x k s h n b out =
-    of_image layout objects image (λ m. slice_index m (section_address layout objects x k + n) ≡ slice_index x.object.file (s.bytes.start + n)) i.links (section_bytes layout objects i.layout_kept i.objects_kept i.links.unrefused x k s h n b out)
-
-pub field_numbers_law : FieldNumbers
-field_numbers_law layout objects image i n j x r f g apart =
-    of_image layout objects image (λ m. little_number (row_size (row_of r.kind)) (drop (section_address layout objects x r.target + r.offset) m) % limit_by (row_of r.kind)
-    ≡ row_number (row_of r.kind) ((section_address layout objects x r.target + r.offset) % 65536) (symbol_sum (numbers_in (linking_of layout objects) x) r)) i.links
-    (field_numbers layout objects i.layout_kept i.objects_kept i.links.unrefused n j x r f g apart)
-
-pub stub_bytes_law : StubBytes
-stub_bytes_law layout objects image i k m f =
-    of_image layout objects image (λ c. memory_part c m.text.start (module_stub_size m) ≡ flat_map word_bytes (stub_of (linking_of layout objects) (region_end layout objects) k m)) i.links (stub_bytes layout objects i.layout_kept i.objects_kept i.links.unrefused k m f)
-
-pub table_words_law : TableWords
-table_words_law layout objects image i j k m name f g =
-    of_image layout objects image (λ c. memory_part c (m.text.start + 76 + 2 * k) 2 ≡ word_bytes (word_named (linking_of layout objects) name)) i.links (table_words layout objects i.layout_kept i.objects_kept i.links.unrefused j k m name f g)
-
-pub vector_words_law : VectorWords
-vector_words_law layout objects image i k v f =
-    of_image layout objects image (λ c. memory_part c (65504 + 2 * v.vector) 2 ≡ word_bytes (word_named (linking_of layout objects) v.name)) i.links (vector_words layout objects i.layout_kept i.objects_kept i.links.unrefused k v f)
-
-pub zero_elsewhere_law : ZeroElsewhere
-zero_elsewhere_law layout objects image i a none = of_image layout objects image (λ m. slice_index m a ≡ 0) i.links (zero_elsewhere layout objects i.layout_kept i.objects_kept i.links.unrefused a none)

@@ -8,3 +8,4 @@ pub mod FieldBytes
 pub mod WordBytes
 pub mod Numbered
 pub mod Contents
+pub mod EachByte

@@ -1,4 +1,4 @@
-use Rattle.linker_laws.proofs.Contents.{section_bytes_law, field_numbers_law, stub_bytes_law, table_words_law, vector_words_law, zero_elsewhere_law}
+use Rattle.linker_laws.proofs.EachByte.{section_bytes_law, field_numbers_law, stub_bytes_law, table_words_law, vector_words_law, zero_elsewhere_law}
 use Rattle.linker_laws.proofs.each_byte_is_given.Goals as goal
 
 pub returns : goal.returns
