@@ -27,12 +27,12 @@ use Rattle.obj_write.specs.Strings.{terminated, string_table, name_at}
 use Rattle.obj_write.specs.Symbols.{info_of, home_index, symbol_entry, symbol_entry_at, symbol_names}
 use Rattle.obj_write.specs.Symbols as own
 use Rattle.obj_write.specs.Relocations.{relocation_entry, relocation_table, relocations_in}
-use Rattle.obj_write.specs.internal.Object.{no_part}
 use Rattle.obj_write.specs.Object.{relocated_in, object_of}
 use Rattle.obj_write.proofs.ReadLemmas.{Stands, stands_left, stands_right, stands_part, stands_below, stands_each, length_below, word_read, word_low, half_read, byte_read}
 use Rattle.obj_write.proofs.FileLemmas.{nothing_below}
 use Rattle.obj_write.proofs.RelocationLemmas.{no_relocation}
 use Rattle.obj_write.proofs.SymbolLemmas.{no_symbol, entry_at, entries_below}
+use Rattle.obj_write.proofs.ObjectLemmas.{no_part}
 use Rattle.obj_write.proofs.SizeLemmas.{length_relocations, length_symbols, length_symbol_at, entries_length}
 use Rattle.obj_write.proofs.NameLemmas.{name_ends, content_read, symbol_strings}
 use Rattle.obj_write.proofs.UnitLemmas.{target_of, symbol_names_few}

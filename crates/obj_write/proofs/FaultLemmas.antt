@@ -14,11 +14,10 @@ use Rattle.asm_text.specs.declared.unit.SectionKind.TheVariants.{Code, Data, Bss
 use Rattle.asm_text.specs.Parts.{SectionValue, UnitValue, IsUnit, IsSectionValue, kept_size}
 use Rattle.obj_write.specs.Strings.{string_table, name_at}
 use Rattle.obj_write.specs.Sections.{FileSection, content_at}
-use Rattle.obj_write.specs.internal.Object.{no_part}
 use Rattle.obj_write.specs.Object.{section_type, section_flags, relocated_in, object_section_names, part_section, symtab_section, strtab_section, shstrtab_section, relocation_section, file_sections, object_of}
 use Rattle.obj_write.proofs.ReadLemmas.{header}
 use Rattle.obj_write.proofs.FileLemmas.{nothing_below, no_head}
-use Rattle.obj_write.proofs.ObjectLemmas.{length_names, part_of, table_of}
+use Rattle.obj_write.proofs.ObjectLemmas.{no_part, length_names, part_of, table_of}
 use Rattle.obj_write.proofs.TableLemmas.{no_section}
 use Rattle.obj_write.proofs.SizeLemmas.{part_at, symtab_at, strtab_at, shstrtab_at, relocations_at, at_all}
 use Rattle.obj_write.proofs.NameLemmas.{name_ends, no_name_ends, content_read, section_strings}

@@ -25,7 +25,6 @@ use Rattle.obj_write.specs.Bytes.{long_bytes}
 use Rattle.obj_write.specs.Strings.{string_table}
 use Rattle.obj_write.specs.Symbols.{info_of, home_index, symbol_names}
 use Rattle.obj_write.specs.Relocations.{relocation_entry, relocations_in}
-use Rattle.obj_write.specs.internal.Object.{no_part}
 use Rattle.obj_write.specs.Object.{relocated_in, object_of}
 use Rattle.obj_write.specs.Reader.{IsPartRead, IsSymbolOf, binding_read, home_read, relocation_read, table_read, IsObjectOf}
 use Rattle.obj_write.proofs.PassLemmas.{each_below_same, each_numbered, all_numbered}
@@ -33,6 +32,7 @@ use Rattle.obj_write.proofs.ReadLemmas.{Stands, stands_left, stands_part, word_r
 use Rattle.obj_write.proofs.FileLemmas.{no_head}
 use Rattle.obj_write.proofs.SymbolLemmas.{no_symbol}
 use Rattle.obj_write.proofs.RelocationLemmas.{no_relocation}
+use Rattle.obj_write.proofs.ObjectLemmas.{no_part}
 use Rattle.obj_write.proofs.SizeLemmas.{length_relocations, at_all}
 use Rattle.obj_write.proofs.NameLemmas.{symbol_strings}
 use Rattle.obj_write.proofs.UnitLemmas.{target_of}

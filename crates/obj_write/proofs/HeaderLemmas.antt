@@ -15,12 +15,11 @@ use Rattle.obj_write.specs.Strings.{string_table, name_at}
 use Rattle.obj_write.specs.Sections.{FileSection, padded_contents, content_at, head_of}
 use Rattle.obj_write.specs.Symbols.{symbol_names, symbol_table_bytes, first_global}
 use Rattle.obj_write.specs.Relocations.{relocation_table}
-use Rattle.obj_write.specs.internal.Object.{no_part}
 use Rattle.obj_write.specs.Object.{section_type, section_flags, part_head, symbols_head, strings_head, relocations_head, symtab_index, relocated_in, object_section_names, part_section, symtab_section, strtab_section, shstrtab_section, relocation_section, file_sections, shstrtab_index, object_of}
 use Rattle.obj_write.proofs.ReadLemmas.{Stands, stands_left, stands_within, stands_each, IsSmall, header}
 use Rattle.obj_write.proofs.TableLemmas.{no_section, head_at}
 use Rattle.obj_write.proofs.FileLemmas.{table_place, stands_whole, IsLaid, laid, no_head, first_header, next_header}
-use Rattle.obj_write.proofs.ObjectLemmas.{relocated_few, relocated_within, part_of, table_of}
+use Rattle.obj_write.proofs.ObjectLemmas.{no_part, relocated_few, relocated_within, part_of, table_of}
 use Rattle.obj_write.proofs.SizeLemmas.{length_sections, part_at, symtab_at, strtab_at, shstrtab_at, relocations_at, at_all, relocations_few, length_symbols}
 use Rattle.obj_write.proofs.UnitLemmas.{target_of, symbol_names_few, section_names_few, name_few, few_contents}
 

@@ -15,10 +15,10 @@ use Rattle.asm_text.specs.declared.unit.SectionKind.{SectionKind}
 use Rattle.asm_text.specs.Parts.{UnitValue, IsUnit}
 use Rattle.obj_write.specs.Symbols as own
 use Rattle.obj_write.specs.Relocations.{relocation_table}
-use Rattle.obj_write.specs.internal.Object.{no_part}
 use Rattle.obj_write.specs.Object.{section_type, symtab_index, strtab_index, relocated_in, object_of}
 use Rattle.obj_write.proofs.ReadLemmas.{header}
 use Rattle.obj_write.proofs.FileLemmas.{nothing_below, no_head}
+use Rattle.obj_write.proofs.ObjectLemmas.{no_part}
 use Rattle.obj_write.proofs.SizeLemmas.{length_relocations, length_symbols}
 use Rattle.obj_write.proofs.UnitLemmas.{target_of}
 use Rattle.obj_write.proofs.HeaderLemmas.{of_kinds, part_head_read, symbols_read, strings_read, names_read, relocations_head_read, counted_sections, zero_header, part_read, symtab_read, strtab_read, target_within}

@@ -13,10 +13,9 @@ use Rattle.elf_objects.specs.Names.{end_in}
 use Rattle.asm_text.specs.Parts.{SectionValue, SymbolValue, UnitValue, IsUnit, IsSectionValue, IsSymbolValue, is_name, is_name_byte, is_digit}
 use Rattle.obj_write.specs.Strings.{terminated, string_table, name_at}
 use Rattle.obj_write.specs.Symbols.{symbol_names}
-use Rattle.obj_write.specs.internal.Object.{no_part, relocation_name_at}
 use Rattle.obj_write.specs.Object.{table_names, part_names, relocation_names, relocated_in, object_section_names}
 use Rattle.obj_write.proofs.ReadLemmas.{Stands, stands_drop}
-use Rattle.obj_write.proofs.ObjectLemmas.{relocated_within, relocation_names_are}
+use Rattle.obj_write.proofs.ObjectLemmas.{no_part, relocation_name_at, relocated_within, relocation_names_are}
 
 -- no byte of it ends a string
 pub record IsString (most : ℕ) (name : List ℕ) : Type 0 where

@@ -1,13 +1,15 @@
 -- The sections of a unit's file, one after the other.
-use Rattle.std.proofs.Common.{◌≡◌, ℕ, zero, suc, ◌+◌, ◌<◌, ◌≤◌, List, [], ◌∷◌, ◌++◌, map, refl, ap, sym, subst, ◌∙◌, arith, append_assoc, length, get_or, length-append}
+use Rattle.std.proofs.Common.{◌≡◌, ℕ, zero, suc, ◌+◌, ◌<◌, ◌≤◌, List, [], ◌∷◌, ◌++◌, map, refl, ap, sym, subst, ◌∙◌, arith, append_assoc, length, get_or, take, length-append}
+use Rattle.std.specs.Prelude.{codes}
 use Rattle.std.specs.List.{All}
-use Rattle.std.proofs.lemmas.List.{get_or-map, append-nil, length-map, map-append}
+use Rattle.std.proofs.lemmas.List.{get_or-map, append-nil, length-map, map-append, map_more, take_all}
 use Rattle.std.proofs.lemmas.List.Elements.{All-nil, All-append, All-cons, All-weaker, All-same, All-get_or}
 use Rattle.elf_objects.specs.Passes.{each_below, all_below}
 use Rattle.elf_objects.proofs.PassLemmas.{each_below_more, each_below_zero, at_each}
 use Rattle.asm_text.specs.declared.unit.AsmSection.{AsmSection}
 use Rattle.asm_text.specs.declared.unit.AsmRelocation.{AsmRelocation}
 use Rattle.asm_text.specs.declared.unit.AsmUnit.{AsmUnit}
+use Rattle.asm_text.specs.declared.unit.SectionKind.TheVariants.{Bss}
 use Rattle.asm_text.specs.Parts.{SectionValue, UnitValue}
 use Rattle.asm_text.specs.Views.{section_value}
 use Rattle.asm_text.specs.Unit.{unit_of}
@@ -21,7 +23,6 @@ use Rattle.obj_write.specs.Sections.{FileSection, padded_contents, header_table}
 use Rattle.obj_write.specs.internal.Sections.{AreSections}
 use Rattle.obj_write.specs.Symbols.{symbol_table_bytes}
 use Rattle.obj_write.specs.Relocations.{relocations_in, relocation_table, where_some, relocated_sections}
-use Rattle.obj_write.specs.internal.Object.{no_part, relocation_name_at}
 use Rattle.obj_write.specs.Object.{table_names, part_names, relocation_name, relocation_names, relocated_in, object_section_names, part_head, part_section, part_sections, relocations_head, symtab_index, relocation_section, relocation_sections, symbols_head, strings_head, symtab_section, file_header, file_bytes}
 use Rattle.obj_write.proofs.PassLemmas.{each_numbered, all_numbered}
 use Rattle.obj_write.proofs.RelocationLemmas.{counted}
@@ -66,6 +67,14 @@ relocated_few rs (suc n) =
 
 -- ---- names
 
+-- a section for a place past the end
+abbrev pub no_part : SectionValue
+no_part = record { name = []; kind = Bss; size = 0; bytes = [] }
+
+-- the name of the relocations of the section of this index
+abbrev pub relocation_name_at : List SectionValue → ℕ → List ℕ
+relocation_name_at sections i = relocation_name (get_or sections i no_part)
+
 map_where : {A B : Type 0} (f : A → B) (rs : List AsmRelocation) (x : A) → map f (where_some rs x) ≡ where_some rs (f x)
 map_where f [] x = refl
 map_where f (r ∷ rs) x = refl
@@ -85,18 +94,36 @@ relocation_names_are unit =
     let f : ℕ → SectionValue → List (List ℕ) = λ i s. where_some (relocations_in unit.relocations i) (relocation_name s) in
     all_numbered f unit.sections no_part ∙ names_below unit.relocations (relocation_name_at unit.sections) (length unit.sections)
 
--- the names that were put are those of the sections
-pub names_whole : (unit : AsmUnit) (relocated : List ℕ) (parts again : List AsmSection) (strings : Strings) → parts ≡ unit.sections.items → again ≡ unit.sections.items → relocated ≡ relocated_in (unit_of unit)
-    → IsTableOf ((part_names (map section_value parts) ++ table_names) ++ map (relocation_name_at (map section_value again)) relocated) strings → IsTableOf (object_section_names (unit_of unit)) strings
-unfolding object_section_names
-names_whole unit relocated parts again strings p q r is =
-    let first : List (List ℕ) = part_names (map section_value unit.sections.items) in
+-- one name more
+pub name_added : (unit : AsmUnit) (relocated : List ℕ) (i : ℕ) (x : AsmSection) (text : List ℕ) (names : List (List ℕ)) (strings : Strings)
+    → relocated ≡ relocated_in (unit_of unit) → i < length relocated → x ≡ get_or unit.sections.items (get_or relocated i 0) x → text ≡ (section_value x).name
+    → let of_first : ℕ → List (List ℕ) = λ n. map (relocation_name_at (unit_of unit).sections) (take n relocated) in
+    IsTableOf ((names ++ of_first i) ++ (codes ".rela" ++ text) ∷ []) strings → IsTableOf (names ++ of_first (i + 1)) strings
+name_added unit relocated i x text names strings these lt at is table =
+    let sections = (unit_of unit).sections in
+    let before = map (relocation_name_at sections) (take i relocated) in
+    let within = these_within unit relocated these i 0 lt in
+    let name : text ≡ (get_or sections (get_or relocated i 0) no_part).name =
+    is ∙ ap (λ (s : AsmSection). (section_value s).name) at ∙ ap (λ (s : SectionValue). s.name) (sym (get_or-map section_value unit.sections.items (get_or relocated i 0) x no_part within)) in
     subst (λ (l : List (List ℕ)). IsTableOf l strings)
-    (ap (λ (l : List AsmSection). (part_names (map section_value l) ++ table_names) ++ map (relocation_name_at (map section_value again)) relocated) p
-    ∙ (ap (λ (l : List AsmSection). (first ++ table_names) ++ map (relocation_name_at (map section_value l)) relocated) q
-    ∙ (ap (λ (l : List ℕ). (first ++ table_names) ++ map (relocation_name_at (map section_value unit.sections.items)) l) r
-    ∙ (ap (λ l. (first ++ table_names) ++ l) (sym (relocation_names_are (unit_of unit)))
-    ∙ append_assoc first table_names (relocation_names (unit_of unit))))))
+    (append_assoc names before ((codes ".rela" ++ text) ∷ [])
+    ∙ ap (λ l. names ++ l) (ap (λ (n : List ℕ). before ++ (codes ".rela" ++ n) ∷ []) name ∙ sym (map_more (relocation_name_at sections) relocated i 0 lt)))
+    table
+
+-- all names of tables of relocations
+pub names_added : (unit : AsmUnit) (relocated : List ℕ) (i : ℕ) → relocated ≡ relocated_in (unit_of unit) → length relocated ≤ i
+    → map (relocation_name_at (unit_of unit).sections) (take i relocated) ≡ relocation_names (unit_of unit)
+names_added unit relocated i these all =
+    ap (map (relocation_name_at (unit_of unit).sections)) (take_all i relocated all ∙ these) ∙ sym (relocation_names_are (unit_of unit))
+
+-- the names that were put are those of the sections
+pub names_whole : (unit : AsmUnit) (parts : List AsmSection) (strings : Strings) → parts ≡ unit.sections.items
+    → IsTableOf ((part_names (map section_value parts) ++ table_names) ++ relocation_names (unit_of unit)) strings → IsTableOf (object_section_names (unit_of unit)) strings
+unfolding object_section_names
+names_whole unit parts strings p is =
+    subst (λ (l : List (List ℕ)). IsTableOf l strings)
+    (ap (λ (l : List AsmSection). (part_names (map section_value l) ++ table_names) ++ relocation_names (unit_of unit)) p
+    ∙ append_assoc (part_names (map section_value unit.sections.items)) table_names (relocation_names (unit_of unit)))
     is
 
 -- how many there are

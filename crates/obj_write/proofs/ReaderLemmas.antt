@@ -15,11 +15,10 @@ use Rattle.asm_text.specs.declared.unit.SectionKind.TheVariants.{Code, Data, Bss
 use Rattle.asm_text.specs.Parts.{SectionValue, UnitValue, IsUnit, IsSectionValue, kept_size}
 use Rattle.obj_write.specs.Strings.{terminated, string_table, name_at}
 use Rattle.obj_write.specs.Sections.{content_at}
-use Rattle.obj_write.specs.internal.Object.{no_part}
 use Rattle.obj_write.specs.Object.{section_type, part_names, table_names, relocation_names, object_section_names, file_sections, object_of}
 use Rattle.obj_write.specs.Reader.{IsPartRead}
 use Rattle.obj_write.proofs.ReadLemmas.{Stands, stands_left, stands_right, stands_drop, stands_each}
-use Rattle.obj_write.proofs.ObjectLemmas.{length_names}
+use Rattle.obj_write.proofs.ObjectLemmas.{no_part, length_names}
 use Rattle.obj_write.proofs.NameLemmas.{IsString, name_ends, section_strings}
 use Rattle.obj_write.proofs.HeaderLemmas.{names_read, part_read, shstrtab_read, part_stands, names_stand}
 use Rattle.obj_write.proofs.FaultLemmas.{names_at, names_content}

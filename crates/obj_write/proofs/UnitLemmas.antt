@@ -13,11 +13,10 @@ use Rattle.obj_write.specs.Strings.{string_table, name_at}
 use Rattle.obj_write.specs.Sections.{FileSection, padded_contents}
 use Rattle.obj_write.specs.Symbols.{symbol_names, symbol_table_bytes}
 use Rattle.obj_write.specs.Relocations.{relocation_table}
-use Rattle.obj_write.specs.internal.Object.{no_part}
 use Rattle.obj_write.specs.Object.{relocated_in, object_section_names, part_section, symtab_section, strtab_section, shstrtab_section, table_sections, relocation_section, file_sections}
 use Rattle.obj_write.proofs.PassLemmas.{flat_map_each}
 use Rattle.obj_write.proofs.FileLemmas.{table_place}
-use Rattle.obj_write.proofs.ObjectLemmas.{length_names, relocated_few, part_of, table_of}
+use Rattle.obj_write.proofs.ObjectLemmas.{no_part, length_names, relocated_few, part_of, table_of}
 use Rattle.obj_write.proofs.SizeLemmas.{sections_each, padded_few, below_few, table_few, relocations_few, length_symbols}
 use Rattle.obj_write.proofs.NameLemmas.{IsString, symbol_strings, section_strings}
 

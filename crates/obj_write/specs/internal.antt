@@ -1,3 +1,2 @@
-pub mod Object
 pub mod Sections
 pub mod Strings

@@ -1,17 +1,16 @@
 //! The file of an object's parts.
 
-ghost use Rattle.std.specs.Prelude.{◌≡◌, ◌+◌, ◌<◌, ◌^◌, ◌++◌, ℕ, List, map, length, All, IfOk, OnOk, None};
+ghost use Rattle.std.specs.Prelude.{◌≡◌, ◌+◌, ◌<◌, ◌^◌, ◌++◌, ℕ, List, map, length, IfOk, OnOk, None};
 ghost use Rattle.elf_objects.specs.Passes.{each_below};
 ghost use Rattle.elf_objects.specs.Object.{elf_fault_of, ObjectValue, IsObject};
 ghost use Rattle.asm_text.specs.Unit.{unit_of};
 ghost use Rattle.asm_text.specs.Views.{section_value};
-ghost use Rattle.obj_write.specs.internal.Object.{relocation_name_at};
 ghost use Rattle.obj_write.specs.internal.Strings.{IsTableOf};
 ghost use Rattle.obj_write.specs.Sections.{FileSection};
 ghost use Rattle.obj_write.specs.internal.Sections.{AreSections};
 ghost use Rattle.obj_write.specs.Symbols.{symbol_names, symbol_table_bytes};
 ghost use Rattle.obj_write.specs.Relocations.{relocation_table};
-ghost use Rattle.obj_write.specs.Object.{section_type, section_flags, part_names, table_names, part_head, symbols_head, strings_head, relocations_head, relocated_in, object_section_names, part_sections, table_sections, relocation_sections, file_sections, file_header, file_bytes, object_of};
+ghost use Rattle.obj_write.specs.Object.{section_type, section_flags, part_names, table_names, relocation_names, part_head, symbols_head, strings_head, relocations_head, relocated_in, object_section_names, part_sections, table_sections, relocation_sections, file_sections, file_header, file_bytes, object_of};
 ghost use Rattle.obj_write.specs.Reader.{IsObjectOf};
 
 use crate::bytes::{put_half, put_word};
@@ -94,15 +93,15 @@ fn name_tables(strings: &mut Strings) -> Result<(), AllocError>
 // The names of the tables of relocations.
 fn name_relocations(
     strings: &mut Strings,
-    sections: &[AsmSection],
+    unit: &AsmUnit,
     relocated: &[usize],
 ) -> Result<(), AllocError>
-    requires { All (λ i. i < length sections.now) relocated.now }
+    requires { relocated.now ≡ relocated_in (unit_of unit.now) }
     ensures { OnOk result ((names : List (List ℕ)) → IsTableOf names strings.old →
-        IsTableOf (names ++ map (relocation_name_at (map section_value sections.now)) relocated.now) strings.new) }
+        IsTableOf (names ++ relocation_names (unit_of unit.now)) strings.new) }
 {
     for i in relocated {
-        strings.add(b".rela", sections[*i].name.as_bytes())?;
+        strings.add(b".rela", unit.sections[*i].name.as_bytes())?;
     }
     Ok(())
 }
@@ -115,7 +114,7 @@ fn name_sections(alloc: Global, unit: &AsmUnit, relocated: &[usize]) -> Result<S
     let mut strings = Strings::new(alloc)?;
     name_parts(&mut strings, &unit.sections)?;
     name_tables(&mut strings)?;
-    name_relocations(&mut strings, &unit.sections, relocated)?;
+    name_relocations(&mut strings, unit, relocated)?;
     Ok(strings)
 }
 
@@ -301,9 +300,9 @@ fn file_bytes(alloc: Global, sections: &Sections, names: usize) -> Result<Vec<u8
 
 /// The bytes of the unit's object file.
 ///
-/// It has section 0, the unit's sections, the tables of symbols, of their names and of the sections' names, and then the
-/// relocations of each section that has some (TIS ELF 1.2). `elf_objects::parse` refuses it for want of memory alone,
-/// and gives the unit's sections, symbols and relocations. Fails only where memory runs out.
+/// It has section 0, the unit's sections, the tables of symbols, of their names and of the sections' names, and then
+/// the relocations of each section that has some (TIS ELF 1.2). `elf_objects::parse` refuses it for want of memory
+/// alone, and gives the unit's sections, symbols and relocations. Fails only where memory runs out.
 pub fn write_object(alloc: Global, unit: &AsmUnit) -> Result<Vec<u8>, AllocError>
     ensures bytes { IfOk result (λ v. v.items ≡ object_of (unit_of unit.now)) }
     ensures sound { IfOk result (λ v. elf_fault_of v.items ≡ None) }
