@@ -171,3 +171,17 @@ pub fn linkage_of<'a>(
     };
     linkage_by(alloc, resolved, layout, objects)
 }
+
+/// The image that the objects link to.
+pub fn link(alloc: Global, layout: &Layout, objects: &[Object]) -> Result<Image, LinkFault>
+    requires few { length objects.now ≤ 64 }
+    requires small { All IsSmall objects.now }
+    ensures sound { OnOk result (link_fault_of (layout_of layout.now) objects.now ≡ None) }
+    ensures links { IfOk result (λ image. Links (layout_of layout.now) objects.now image) }
+    ensures refusal { IfErr result (IsLinkFaultOf (link_fault_of (layout_of layout.now) objects.now)) }
+{
+    match linkage_of(alloc, layout, objects) {
+        Ok(linkage) => Ok(linkage.image),
+        Err(fault) => Err(fault),
+    }
+}

@@ -1,10 +1,9 @@
-use Rattle.std.proofs.Common.{◌≡◌, ◌+◌, ◌*◌, ℕ, ap, sym, ◌∙◌, length, arith, List, Vec, Ok, refl, subst, map, Some, None}
+use Rattle.std.proofs.Common.{◌≡◌, ◌+◌, ◌*◌, ℕ, ap, sym, ◌∙◌, length, arith, List, Vec, refl, subst, map, Some, None}
 use Rattle.std.specs.declared.alloc.Global.{Global}
 use Rattle.std.proofs.lemmas.List.{length-map}
 use Rattle.std.specs.Prelude.{slice_index}
 use Rattle.layout_file.specs.Layout.{layout_of}
 use Rattle.layout_file.specs.Views.{module_value}
-use Rattle.link_symbols.specs.declared.fault.LinkFault.{LinkFault}
 use Rattle.link_symbols.specs.declared.item.Item.{Item}
 use Rattle.mod_layout.specs.First.{first_in}
 use Rattle.link_symbols.specs.Passes.{numbered_objects}
@@ -17,7 +16,7 @@ use Rattle.linker.specs.Numbers.{Linking, numbers_in}
 use Rattle.linker.specs.internal.Resolved.{linking_by}
 use Rattle.linker.specs.Fields.{reloc_fault_in}
 use Rattle.link_symbols.proofs.OrderLemmas.{skip, hit}
-use Rattle.linker.proofs.LinkLemmas.{linking_same, ends_same, linked_if}
+use Rattle.linker.proofs.LinkLemmas.{linking_same, ends_same, linked_is}
 use Rattle.linker.proofs.FitLemmas.{all_fit}
 use Rattle.linker.proofs.RegionLemmas.{items_are_in}
 use Rattle.linker.proofs.CountLemmas.{items_few}
@@ -50,7 +49,7 @@ returns-in-Ok-tell_linkage-clause-linked c =
     let l = layout_of c.args.layout.now in
     let k = linking_same c.args.resolved.objects c.in-Ok.placement.addresses.items l c.args.objects.now c.items.result.now (c.items.ensures ∙ c.requires.items) c.requires.resolved c.in-Ok.ensures.addresses in
     let e = ends_same c.in-Ok.placement.ends.items l c.args.objects.now c.items.result.now (c.items.ensures ∙ c.requires.items) c.in-Ok.ensures.ends in
-    c.in-Ok-tell_linkage.ensures.image ∙ linked_if {E = LinkFault} (Ok c.in-Ok-image_by.image) (linking_by c.args.resolved.objects c.in-Ok.placement.addresses.items) (slice_index c.in-Ok.placement.ends.items) l c.args.objects.now k e
+    c.in-Ok-tell_linkage.ensures.image ∙ linked_is c.in-Ok-image_by.image (linking_by c.args.resolved.objects c.in-Ok.placement.addresses.items) (slice_index c.in-Ok.placement.ends.items) l c.args.objects.now k e
     c.in-Ok-image_by.ensures.memory c.in-Ok-image_by.ensures.table c.in-Ok-image_by.ensures.key c.in-Ok-image_by.ensures.handler
 
 pub returns-in-Ok-tell_linkage-clause-addresses : goal.returns-in-Ok-tell_linkage-clause-addresses
