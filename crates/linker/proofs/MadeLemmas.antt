@@ -14,6 +14,7 @@ use Rattle.linker.specs.internal.Tables.{AllHeld}
 use Rattle.linker.specs.Image.{with_boot, with_boots, booted_table}
 use Rattle.linker.specs.internal.Tables.{Drawn, TableFits}
 use Rattle.linker.proofs.ImageLemmas.{held_more, fold_range_more}
+use Rattle.linker.proofs.LinkLemmas.{room_small}
 use Rattle.linker.proofs.TableLemmas.{kept_at, taken, more_by, drawn_next, room_by}
 
 module _ (end : ℕ → ℕ) (layout : LayoutValue) (s : IsLayout layout) (fits : TableFits end layout.modules) where
@@ -35,10 +36,6 @@ module _ (end : ℕ → ℕ) (layout : LayoutValue) (s : IsLayout layout) (fits 
   known_room : (layout.room ≡ 8) ⊎ (layout.room ≡ 32)
   known_room = room_or _ _ refl refl s.known_room
 
-  room_small : (layout.room ≡ 8) ⊎ (layout.room ≡ 32) → layout.room ≤ 32
-  room_small (inl e) = omega arith
-  room_small (inr e) = omega arith
-
   -- ---- one module
 
   step_by : (boot number : ℕ) (m : ModuleValue) (t : Table) (b : Bool) → (m.boot == boot + 1) ≡ b → slice_get ms number ≡ Some m → boot < layout.room → Made boot number t
@@ -47,7 +44,7 @@ module _ (end : ℕ → ℕ) (layout : LayoutValue) (s : IsLayout layout) (fits 
   step_by boot number m t true e g low h =
       let vendor = (kept_at layout s number m g).vendor_word in
       let room = h.room in
-      let most = room_small known_room in
+      let most = room_small layout.room known_room in
       let none = taken end ms boot number m t fits h.drawn h.held g (grind (arith, nat_tests)) (omega (arith, room, low)) (omega (arith, room, most)) in (
         held_more t m.vendor (text_of end number m) (ram_of end number m) (omega (arith, vendor)) h.held,
         table_more t m.vendor (text_of end number m) (ram_of end number m) h.is (ap is_none none),

@@ -1,8 +1,8 @@
 -- Items stand one after another in their region, each at a multiple of its alignment.
-use Rattle.std.proofs.Common.{◌≡◌, ◌≢◌, ◌⊎◌, inl, inr, ℕ, zero, suc, ◌+◌, ◌*◌, ◌/◌, ◌%◌, ◌-◌, ◌<◌, ◌≤◌, List, [], ◌∷◌, take, filter, max, Option, Some, None, refl, ap, sym, ◌∙◌, arith}
+use Rattle.std.proofs.Common.{◌≡◌, ◌≢◌, ◌⊎◌, inl, inr, ℕ, zero, suc, ◌+◌, ◌/◌, ◌%◌, ◌-◌, ◌<◌, ◌≤◌, List, [], ◌∷◌, take, filter, max, Option, Some, None, refl, ap, sym, ◌∙◌, arith}
 use Rattle.std.specs.Prelude.{slice_index}
 use Rattle.std.proofs.lemmas.Bool.{cases_lt}
-use Rattle.std.proofs.lemmas.Nat.{mod-mul-add}
+use Rattle.std.proofs.Math.Nat.{mul-mod_left}
 use Rattle.link_symbols.specs.declared.item.Item.{Item}
 use Rattle.link_symbols.specs.declared.item.Part.{Part}
 use Rattle.linker.specs.Placement.{filled_end, address_at, items_end, goes_to}
@@ -15,9 +15,6 @@ goes_of : (items : List Item) (k : ℕ) (p : Part) → own_part items k ≡ Some
 goes_of [] k p e = some_not p (sym e)
 goes_of (x ∷ xs) zero p e = (x, (refl, e))
 goes_of (x ∷ xs) (suc k) p e = goes_of xs k p e
-
-multiple : (n a : ℕ) → 1 ≤ a → n * a % a ≡ 0
-multiple n a h = let z : n * a ≡ n * a + 0 = omega arith in ap (λ (m : ℕ). m % a) z ∙ mod-mul-add n a 0 h
 
 module _ (starts : List ℕ) (items : List Item) where
   -- where the k-th item ends
@@ -142,4 +139,4 @@ module _ (starts : List ℕ) (items : List Item) where
   pub aligned : (k : ℕ) (i : Item) (p : Part) → Goes items k i p → address_at starts items k % max i.align 2 ≡ 0
   aligned k i p g =
       let a = max i.align 2 in
-      ap (λ (n : ℕ). n % a) (address_is starts items k i p g) ∙ multiple ((ahead k p + (a - 1)) / a) a (omega arith)
+      ap (λ (n : ℕ). n % a) (address_is starts items k i p g) ∙ mul-mod_left ((ahead k p + (a - 1)) / a) a

@@ -1,7 +1,6 @@
 -- Everything lies inside its region, apart from all else, at a multiple of its alignment.
-use Rattle.std.proofs.Common.{◌≡◌, ◌≢◌, ◌⊎◌, inl, inr, ℕ, zero, suc, ◌+◌, ◌*◌, ◌%◌, ◌<◌, ◌≤◌, List, [], ◌∷◌, length, get_or, Option, Some, None, refl, ap, sym, ◌∙◌, subst, arith}
-use Rattle.std.specs.Prelude.{slice_get, slice_index}
-use Rattle.std.specs.List.{flat_map}
+use Rattle.std.proofs.Common.{◌≡◌, ◌≢◌, ◌⊎◌, inl, inr, ℕ, suc, ◌+◌, ◌*◌, ◌%◌, ◌<◌, ◌≤◌, List, length, get_or, Option, Some, None, refl, ap, sym, ◌∙◌, subst, arith}
+use Rattle.std.specs.Prelude.{slice_get, slice_index, option_map}
 use Rattle.std.proofs.lemmas.Bool.{cases_eq, cases_lt}
 use Rattle.std.proofs.lemmas.Option.{same_Some}
 use Rattle.mod_layout.specs.declared.Section.{Section}
@@ -9,7 +8,7 @@ use Rattle.mod_layout.proofs.Found.{ends_of, within}
 use Rattle.elf_objects.specs.Object.{ObjectValue}
 use Rattle.layout_file.specs.Overlaps.{ShareNoByte}
 use Rattle.layout_file.specs.Sound.{IsLayout}
-use Rattle.layout_file.specs.Values.{ModuleValue, LayoutValue, regions, regions_of}
+use Rattle.layout_file.specs.Values.{ModuleValue, LayoutValue, regions}
 use Rattle.link_symbols.specs.declared.item.Item.{Item}
 use Rattle.link_symbols.specs.declared.item.Part.{Part}
 use Rattle.link_symbols.specs.Resolved.{items_of}
@@ -17,7 +16,8 @@ use Rattle.linker.specs.Placement.{starts_of, address_at, module_stub_size, roun
 use Rattle.linker.specs.Numbers.{region_end}
 use Rattle.linker.proofs.BoundLemmas.{round_up_above, region_by}
 use Rattle.linker.proofs.FitLemmas.{text_starts, ram_starts, first_two}
-use Rattle.linker.proofs.TableLemmas.{regions_count}
+use Rattle.linker.proofs.ImageLemmas.{pair_at}
+use Rattle.linker.proofs.TableLemmas.{regions_count, turn}
 use Rattle.linker.proofs.PlaceLemmas.{Goes, goes_in, own_is, some_not}
 use Rattle.linker.proofs.RegionLemmas.{items_are_in}
 use Rattle.linker.proofs.TurnLemmas.{item_low, item_high, in_turn, room_for, aligned}
@@ -27,9 +27,6 @@ use Rattle.linker_laws.proofs.Conditions.{can_link}
 use Rattle.linker_laws.proofs.Searches.{got, gets}
 
 -- ---- sections
-
-turn : (a b : Section) → ShareNoByte a b → ShareNoByte b a
-turn a b h = λ x p q. h x q p
 
 -- one that ends where another starts, or before
 one_before : (s t : Section) → s.end ≤ t.start → ShareNoByte s t
@@ -46,30 +43,11 @@ inside_apart s t a b i j h = λ x p q.
 abbrev pub region_at : LayoutValue → ℕ → Option Section
 region_at layout n = slice_get (regions layout.text layout.ram layout.modules) n
 
-abbrev text_in : Option ModuleValue → Option Section
-text_in None = None
-text_in (Some m) = Some m.text
+text_region : (layout : LayoutValue) (i : ℕ) → region_at layout (2 + 2 * i) ≡ option_map (λ m. m.text) (slice_get layout.modules i)
+text_region layout i = let q : 2 + 2 * i ≡ suc (suc (i + i)) = omega arith in ap (region_at layout) q ∙ (pair_at (λ (m : ModuleValue). m.text) (λ (m : ModuleValue). m.ram) layout.modules i).0
 
-abbrev ram_in : Option ModuleValue → Option Section
-ram_in None = None
-ram_in (Some m) = Some m.ram
-
-region_even : (ms : List ModuleValue) (i : ℕ) → slice_get (flat_map regions_of ms) (i + i) ≡ text_in (slice_get ms i)
-region_even [] i = refl
-region_even (m ∷ ms) zero = refl
-region_even (m ∷ ms) (suc i) = let q : suc i + suc i ≡ suc (suc (i + i)) = omega arith in ap (slice_get (flat_map regions_of (m ∷ ms))) q ∙ region_even ms i
-
-region_odd : (ms : List ModuleValue) (i : ℕ) →
-    slice_get (flat_map regions_of ms) (suc (i + i)) ≡ ram_in (slice_get ms i)
-region_odd [] i = refl
-region_odd (m ∷ ms) zero = refl
-region_odd (m ∷ ms) (suc i) = let q : suc (suc i + suc i) ≡ suc (suc (suc (i + i))) = omega arith in ap (slice_get (flat_map regions_of (m ∷ ms))) q ∙ region_odd ms i
-
-text_region : (layout : LayoutValue) (i : ℕ) → region_at layout (2 + 2 * i) ≡ text_in (slice_get layout.modules i)
-text_region layout i = let q : 2 + 2 * i ≡ suc (suc (i + i)) = omega arith in ap (region_at layout) q ∙ region_even layout.modules i
-
-ram_region : (layout : LayoutValue) (i : ℕ) → region_at layout (3 + 2 * i) ≡ ram_in (slice_get layout.modules i)
-ram_region layout i = let q : 3 + 2 * i ≡ suc (suc (suc (i + i))) = omega arith in ap (region_at layout) q ∙ region_odd layout.modules i
+ram_region : (layout : LayoutValue) (i : ℕ) → region_at layout (3 + 2 * i) ≡ option_map (λ m. m.ram) (slice_get layout.modules i)
+ram_region layout i = let q : 3 + 2 * i ≡ suc (suc (suc (i + i))) = omega arith in ap (region_at layout) q ∙ (pair_at (λ (m : ModuleValue). m.text) (λ (m : ModuleValue). m.ram) layout.modules i).1
 
 pub text_start : (layout : LayoutValue) (i : ℕ) (m : ModuleValue) → slice_get layout.modules i ≡ Some m →
     slice_index (starts_of layout) (2 + 2 * i) ≡ m.text.start + module_stub_size m
@@ -141,13 +119,13 @@ module _ (layout : LayoutValue) (objects : List ObjectValue) (s : IsLayout layou
   bounded_by n r e (inr (inr (i, inl q))) = by (slice_get layout.modules i) refl
     where
       by : (o : Option ModuleValue) → slice_get layout.modules i ≡ o → Bounded layout objects n r
-      by None f = no_region n (2 + 2 * i) r q (text_region layout i ∙ ap text_in f) e
-      by (Some m) f = it_is n (2 + 2 * i) r m.text q (text_region layout i ∙ ap text_in f) e (text_bounded i m f)
+      by None f = no_region n (2 + 2 * i) r q (text_region layout i ∙ ap (option_map (λ (m : ModuleValue). m.text)) f) e
+      by (Some m) f = it_is n (2 + 2 * i) r m.text q (text_region layout i ∙ ap (option_map (λ (m : ModuleValue). m.text)) f) e (text_bounded i m f)
   bounded_by n r e (inr (inr (i, inr q))) = by (slice_get layout.modules i) refl
     where
       by : (o : Option ModuleValue) → slice_get layout.modules i ≡ o → Bounded layout objects n r
-      by None f = no_region n (3 + 2 * i) r q (ram_region layout i ∙ ap ram_in f) e
-      by (Some m) f = it_is n (3 + 2 * i) r m.ram q (ram_region layout i ∙ ap ram_in f) e (ram_bounded i m f)
+      by None f = no_region n (3 + 2 * i) r q (ram_region layout i ∙ ap (option_map (λ (m : ModuleValue). m.ram)) f) e
+      by (Some m) f = it_is n (3 + 2 * i) r m.ram q (ram_region layout i ∙ ap (option_map (λ (m : ModuleValue). m.ram)) f) e (ram_bounded i m f)
 
   pub bounded : (n : ℕ) (r : Section) → region_at layout n ≡ Some r → Bounded layout objects n r
   bounded n r e = bounded_by n r e (region_by n)
@@ -178,7 +156,7 @@ module _ (layout : LayoutValue) (objects : List ObjectValue) (s : IsLayout layou
       let h = (text_bounded i m e).high in
       let b = text_start layout i m e in
       let u = room_for starts items (2 + 2 * i) in
-      record { region = text_region layout i ∙ ap text_in e; inside = record { start = omega arith; end = omega (arith, h, b, u) } }
+      record { region = text_region layout i ∙ ap (option_map (λ (m : ModuleValue). m.text)) e; inside = record { start = omega arith; end = omega (arith, h, b, u) } }
 
   stack_sits : (i : ℕ) (m : ModuleValue) → slice_get layout.modules i ≡ Some m →
       Sits (3 + 2 * i) (span m.ram.start (4 + m.stack)) m.ram
@@ -186,7 +164,7 @@ module _ (layout : LayoutValue) (objects : List ObjectValue) (s : IsLayout layou
       let h = (ram_bounded i m e).high in
       let b = ram_start layout i m e in
       let u = room_for starts items (3 + 2 * i) in
-      record { region = ram_region layout i ∙ ap ram_in e; inside = record { start = omega arith; end = omega (arith, h, b, u) } }
+      record { region = ram_region layout i ∙ ap (option_map (λ (m : ModuleValue). m.ram)) e; inside = record { start = omega arith; end = omega (arith, h, b, u) } }
 
   pub inside : (p : Piece) (t r : Section) → Lies layout objects p t r → IsInside t r
   inside p t r (item_lies k i q x e f g) = (item_sits k i q x (e, f) g).inside
