@@ -22,7 +22,7 @@ use Rattle.cli_files.specs.declared.answers.Status.{Status}
 use Rattle.cli_files.specs.declared.answers.Status.TheVariants as status
 use Rattle.cli_calls.specs.Command.{Command, Answer, done, gives, runs, Comes, IsAnswer, Outcome, nothing, refuses, trace_answer}
 use Rattle.cli_calls.specs.ImageRuns.{image_run_command}
-use Rattle.cli_calls.specs.Linking.{objects_command, with_objects, linked, linked_by, text_linked}
+use Rattle.cli_calls.specs.Linking.{objects_command, with_objects, linked, linked_by}
 use Rattle.cli_calls.specs.Runs.{IsCommandCause, EndsAs, IsRun}
 
 -- what a command gives is its answer
@@ -103,16 +103,16 @@ module _ (layout : LayoutValue) (objects : List ObjectValue) (outcome : Image �
 
 -- the same of a text that is written of the layout and the objects
 pub text_given : (layout : LayoutValue) (objects : List ObjectValue) (text : LayoutValue → List ObjectValue → List ℕ) (fault : Option LinkFault) → link_fault_of layout objects ≡ fault
-    → with_objects (text_linked text layout) (map an_object objects)
+    → with_objects (λ own. linked layout own (λ image. done (text layout own))) (map an_object objects)
     ≡ linked_by layout objects (λ image. done (text layout objects)) fault
 text_given layout objects text fault e =
-    with_these (text_linked text layout) objects
+    with_these (λ own. linked layout own (λ image. done (text layout own))) objects
     ∙ ap (linked_by layout objects (λ image. done (text layout objects))) e
 
 -- what comes of a layout and objects
 pub objects_comes : (files : Option FileMap) (text : LayoutValue → List ObjectValue → List ℕ) (name : List ℕ) (names : List (List ℕ)) (layout : LayoutValue) (objects : List ObjectValue) (outcome : Outcome)
     → Holds files (need name layout_file) (a_layout layout) → HoldAll files (object_needs names) (map an_object objects)
-    → with_objects (text_linked text layout) (map an_object objects) ≡ outcome
+    → with_objects (λ own. linked layout own (λ image. done (text layout own))) (map an_object objects) ≡ outcome
     → Comes files (objects_command text name names) outcome
 objects_comes files text name names layout objects outcome h hs e = record { helds = a_layout layout ∷ map an_object objects; hold = (h, hs); is = e }
 

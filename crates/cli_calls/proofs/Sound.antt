@@ -12,7 +12,7 @@ use Rattle.linker.specs.Refusals.{link_fault_of}
 use Rattle.cli_files.specs.Files.{Held, a_layout, a_schedule, an_image, HoldAll}
 use Rattle.cli_calls.specs.Command.{Command, Outcome, Comes, done, nothing}
 use Rattle.cli_calls.specs.ImageRuns.{image_run_command, read_image_run}
-use Rattle.cli_calls.specs.Linking.{linked_by, objects_command, read_objects, text_linked}
+use Rattle.cli_calls.specs.Linking.{linked, linked_by, objects_command, read_objects}
 use Rattle.cli_calls.specs.CommandNames.{NamedCommand, command_by, command_of}
 use Rattle.cli_calls.specs.Values.{read_cycles, file_named}
 use Rattle.cli_calls.specs.Words.{Text, values_within}
@@ -32,7 +32,7 @@ some_linked layout objects outcome (Some fault) s e = cc
 sound_objects : (text : LayoutValue → List ObjectValue → List ℕ) (layout : Text) (objects : List Text) → Sound (objects_command text layout objects)
 sound_objects text name objects map [] h e = h
 sound_objects text name objects map (a_layout layout ∷ more) h e =
-    some_objects (Some map) (text_linked text layout) objects more h.1
+    some_objects (Some map) (λ own. linked layout own (λ image. done (text layout own))) objects more h.1
     (λ own. some_linked layout own (λ image. done (text layout own)) (link_fault_of layout own) (λ image e. cc)) e
 sound_objects text name objects map (held ∷ more) h e = h.0.is
 
@@ -43,10 +43,8 @@ IsSomething told = (value : Image) (entries : List Entry) (cycles : ℕ) → tol
 sound_image_run : (told : Image → List Entry → ℕ → Outcome) → IsSomething told → (name : Text) (schedule : Option Text) (cycles : ℕ) → Sound (image_run_command told name schedule cycles)
 sound_image_run told some name schedule cycles map [] h e = h
 sound_image_run told some name schedule cycles map (an_image value ∷ []) h e = some value [] cycles e
-sound_image_run told some name schedule cycles map (an_image value ∷ a_schedule entries ∷ []) h e =
-    some value entries cycles e
+sound_image_run told some name schedule cycles map (an_image value ∷ a_schedule entries ∷ more) h e = some value entries cycles e
 sound_image_run told some name None cycles map (an_image value ∷ second ∷ more) h e = h.1
-sound_image_run told some name (Some own) cycles map (an_image value ∷ a_schedule entries ∷ third ∷ more) h e = h.1.1
 sound_image_run told some name (Some own) cycles map (an_image value ∷ second ∷ more) h e = h.1.0.is
 sound_image_run told some name schedule cycles map (held ∷ more) h e = h.0.is
 

@@ -13,8 +13,7 @@ with_schedule outcome (a_schedule entries ∷ more) = outcome entries more
 with_schedule outcome more = outcome [] more
 
 abbrev pub image_run_outcome : (Image → List Entry → ℕ → Outcome) → ℕ → List Held → Outcome
-image_run_outcome told cycles (an_image value ∷ []) = told value [] cycles
-image_run_outcome told cycles (an_image value ∷ a_schedule entries ∷ []) = told value entries cycles
+image_run_outcome told cycles (an_image value ∷ more) = with_schedule (λ entries others. told value entries cycles) more
 image_run_outcome told cycles _ = nothing
 
 abbrev pub image_run_command : (Image → List Entry → ℕ → Outcome) → Text → Option Text → ℕ → Command

@@ -27,11 +27,8 @@ linked layout objects outcome = linked_by layout objects outcome (link_fault_of 
 
 -- ---- `LAYOUT OBJ..`: a text that is written of a layout and the objects that link
 
-abbrev pub text_linked : (LayoutValue → List ObjectValue → List ℕ) → LayoutValue → List ObjectValue → Outcome
-text_linked text layout objects = linked layout objects (λ image. done (text layout objects))
-
 abbrev pub objects_outcome : (LayoutValue → List ObjectValue → List ℕ) → List Held → Outcome
-objects_outcome text (a_layout layout ∷ more) = with_objects (text_linked text layout) more
+objects_outcome text (a_layout layout ∷ more) = with_objects (λ objects. linked layout objects (λ image. done (text layout objects))) more
 objects_outcome text _ = nothing
 
 abbrev pub objects_command : (LayoutValue → List ObjectValue → List ℕ) → Text → List Text → Command

@@ -17,20 +17,13 @@ use Rattle.terms_file.specs.Terms.{registers_in, addresses_in}
 abbrev pub told_by : List Term → Terms
 told_by terms = record { answers = registers_in terms; public = addresses_in terms }
 
-abbrev pub is_register : ℕ → Term → Bool
-is_register value (Answer n) = n == value
-is_register value (Public a) = false
-
-abbrev pub is_word : ℕ → Term → Bool
-is_word value (Answer n) = false
-is_word value (Public a) = a == value
-
+-- a register that is secret where a call ends, a word that is where the module leaves
 abbrev pub named_by : Reason → ℕ → Term → Bool
-named_by SecretAtExit value term = is_register value term
-named_by DataAtExit value term = is_word value term
+named_by SecretAtExit value (Answer n) = n == value
+named_by DataAtExit value (Public a) = a == value
 named_by _ value term = false
 
--- the verdict names this term: a register that is secret where a call ends, or a word that is where the module leaves
+-- the verdict names this term
 abbrev pub names : Verdict → Term → Bool
 names Yes term = false
 names (No addr why value) term = named_by why value term

@@ -3,10 +3,6 @@ use Rattle.std.specs.Prelude.{ℕ, List, ◌++◌, codes}
 use Rattle.texts.specs.Hexadecimals.{hex_word}
 use Rattle.flow_rule.specs.declared.Reason.{Reason}
 use Rattle.flow_rule.specs.declared.Reason.TheVariants as reason
-use Rattle.flow_rule.specs.declared.Verdict.{Verdict}
-use Rattle.flow_rule.specs.declared.Verdict.TheVariants.{Yes, No}
-use Rattle.cli_files.specs.declared.answers.Status.{Status}
-use Rattle.cli_files.specs.declared.answers.Status.TheVariants.{Done, CheckNo}
 
 abbrev pub reason_name : Reason → List ℕ
 reason_name reason.SecretBranch = codes "SecretBranch"
@@ -24,11 +20,3 @@ reason_name reason.DataAtExit = codes "DataAtExit"
 -- `no`, the address, the reason and its value
 abbrev pub no_line : ℕ → Reason → ℕ → List ℕ
 no_line addr why value = (codes "no " ++ (hex_word addr ++ codes " ")) ++ (reason_name why ++ (codes " " ++ (hex_word value ++ codes "\n")))
-
-abbrev pub verdict_line : Verdict → List ℕ
-verdict_line Yes = codes "yes\n"
-verdict_line (No addr why value) = no_line addr why value
-
-abbrev pub verdict_status : Verdict → Status
-verdict_status Yes = Done
-verdict_status (No addr why value) = CheckNo

@@ -7,7 +7,7 @@ ghost use Rattle.written_machine.specs.Peers.{section};
 ghost use Rattle.sm_io.specs.Sink.{Took, CutOff, Puts};
 ghost use Rattle.cli_calls.specs.Command.{verdict_answer};
 ghost use Rattle.cli_calls.specs.Runs.{EndsAs};
-ghost use Rattle.cli_calls.specs.Verdicts.{no_line, reason_name, verdict_line, verdict_status};
+ghost use Rattle.cli_calls.specs.Verdicts.{no_line, reason_name};
 
 use cli_files::{Chosen, Status, put_named};
 use flow_rule::{Reason, Verdict};
@@ -36,7 +36,7 @@ pub fn put_verdict<O: Sink>(out: &mut O, verdict: Verdict) -> Status
 }
 
 fn status_of(verdict: Verdict) -> Status
-    ensures { result ≡ verdict_status verdict }
+    ensures { result ≡ (verdict_answer verdict).status }
 {
     match verdict {
         Verdict::Yes => Status::Done,
@@ -45,7 +45,7 @@ fn status_of(verdict: Verdict) -> Status
 }
 
 fn put_verdict_line<O: Sink>(out: &mut O, verdict: Verdict) -> Result<(), Failed>
-    ensures { Puts O.taken O.faults O.sure out.old out.new (verdict_line verdict) result }
+    ensures { Puts O.taken O.faults O.sure out.old out.new (verdict_answer verdict).text result }
 {
     match verdict {
         Verdict::Yes => put_all(out, b"yes\n"),

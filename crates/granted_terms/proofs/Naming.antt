@@ -6,23 +6,24 @@ use Rattle.std.proofs.lemmas.Cmp.{nat_eq_equiv}
 use Rattle.std.proofs.lemmas.List.Folds.{list_any-append}
 use Rattle.flow_rule.specs.Terms.{Terms}
 use Rattle.flow_rule.specs.declared.Reason.{Reason}
+use Rattle.flow_rule.specs.declared.Reason.TheVariants.{SecretAtExit, DataAtExit}
 use Rattle.flow_rule.specs.declared.Verdict.{Verdict}
 use Rattle.flow_rule.specs.declared.Verdict.TheVariants.{Yes, No}
 use Rattle.flow_laws.proofs.Telling.{on_list}
 use Rattle.terms_file.specs.declared.Term.{Term}
 use Rattle.terms_file.specs.declared.Term.TheVariants.{Answer, Public}
 use Rattle.terms_file.specs.Terms.{registers_in, addresses_in}
-use Rattle.cli_calls.specs.Offers.{told_by, is_register, is_word, named_by, names, have_named, stands, standing_terms}
+use Rattle.cli_calls.specs.Offers.{told_by, named_by, names, have_named, stands, standing_terms}
 use Rattle.granted_terms.proofs.Forgiven.{Within, ByAnswer, ByWord}
 use Rattle.granted_terms.proofs.Accepting.{IsForgiven}
 
 -- ---- what is told by the terms that stand
-on_answers : (ts : List Term) (n : ℕ) → on_list (registers_in ts) n ≡ list_any (is_register n) ts
+on_answers : (ts : List Term) (n : ℕ) → on_list (registers_in ts) n ≡ list_any (named_by SecretAtExit n) ts
 on_answers [] n = refl
 on_answers (Answer k ∷ ts) n = ap (λ b. b || on_list (registers_in ts) n) (nat_eq_equiv.symm n k) ∙ ap (λ b. (k == n) || b) (on_answers ts n)
 on_answers (Public a ∷ ts) n = on_answers ts n
 
-on_public : (ts : List Term) (a : ℕ) → on_list (addresses_in ts) a ≡ list_any (is_word a) ts
+on_public : (ts : List Term) (a : ℕ) → on_list (addresses_in ts) a ≡ list_any (named_by DataAtExit a) ts
 on_public [] a = refl
 on_public (Answer n ∷ ts) a = on_public ts a
 on_public (Public k ∷ ts) a = ap (λ b. b || on_list (addresses_in ts) a) (nat_eq_equiv.symm a k) ∙ ap (λ b. (k == a) || b) (on_public ts a)
@@ -55,28 +56,28 @@ abbrev pub told : List Term → List Verdict → Terms
 told granted verdicts = told_by (standing_terms granted verdicts)
 
 module _ (granted : List Term) (verdicts : List Verdict) where
-  answers_told : (n : ℕ) → on_list (told granted verdicts).answers n ≡ (have_named verdicts (Answer n) && list_any (is_register n) granted)
+  answers_told : (n : ℕ) → on_list (told granted verdicts).answers n ≡ (have_named verdicts (Answer n) && list_any (named_by SecretAtExit n) granted)
   answers_told n =
       on_answers (standing_terms granted verdicts) n
-      ∙ any_kept (is_register n) (stands verdicts) (have_named verdicts (Answer n)) by granted
+      ∙ any_kept (named_by SecretAtExit n) (stands verdicts) (have_named verdicts (Answer n)) by granted
     where
-      by : (t : Term) → is_register n t ≡ true → stands verdicts t ≡ have_named verdicts (Answer n)
+      by : (t : Term) → named_by SecretAtExit n t ≡ true → stands verdicts t ≡ have_named verdicts (Answer n)
       by (Answer k) e = ap (λ i. have_named verdicts (Answer i)) (eqb-true k n e)
       by (Public a) e = absurd cc
 
-  public_told : (a : ℕ) → on_list (told granted verdicts).public a ≡ (not (have_named verdicts (Public a)) && list_any (is_word a) granted)
+  public_told : (a : ℕ) → on_list (told granted verdicts).public a ≡ (not (have_named verdicts (Public a)) && list_any (named_by DataAtExit a) granted)
   public_told a =
       on_public (standing_terms granted verdicts) a
-      ∙ any_kept (is_word a) (stands verdicts) (not (have_named verdicts (Public a))) by granted
+      ∙ any_kept (named_by DataAtExit a) (stands verdicts) (not (have_named verdicts (Public a))) by granted
     where
-      by : (t : Term) → is_word a t ≡ true → stands verdicts t ≡ not (have_named verdicts (Public a))
+      by : (t : Term) → named_by DataAtExit a t ≡ true → stands verdicts t ≡ not (have_named verdicts (Public a))
       by (Public k) e = ap (λ i. not (have_named verdicts (Public i))) (eqb-true k a e)
       by (Answer n) e = absurd cc
 
 -- each of these terms is granted
 pub record Granted (granted : List Term) (other : Terms) : Type 0 where
-  pub answers : (n : ℕ) → on_list other.answers n ≡ true → list_any (is_register n) granted ≡ true
-  pub public : (a : ℕ) → on_list other.public a ≡ true → list_any (is_word a) granted ≡ true
+  pub answers : (n : ℕ) → on_list other.answers n ≡ true → list_any (named_by SecretAtExit n) granted ≡ true
+  pub public : (a : ℕ) → on_list other.public a ≡ true → list_any (named_by DataAtExit a) granted ≡ true
 
 -- the verdicts have named no other answers, and no public words
 pub record Named (other : Terms) (verdicts : List Verdict) : Type 0 where
@@ -96,8 +97,8 @@ module _ (granted : List Term) (other : Terms) (verdicts : List Verdict) (g : Gr
   pub within : Within now other
   within =
       record {
-        answers = λ n e. d.answers n (and_parts (have_named verdicts (Answer n)) (list_any (is_register n) granted) (sym (answers_told granted verdicts n) ∙ e)).0;
-        public = λ a e. public_told granted verdicts a ∙ ap (λ b. not b && list_any (is_word a) granted) (d.public a e) ∙ g.public a e;
+        answers = λ n e. d.answers n (and_parts (have_named verdicts (Answer n)) (list_any (named_by SecretAtExit n) granted) (sym (answers_told granted verdicts n) ∙ e)).0;
+        public = λ a e. public_told granted verdicts a ∙ ap (λ b. not b && list_any (named_by DataAtExit a) granted) (d.public a e) ∙ g.public a e;
       }
 
   -- ---- an answer that is named is one of the others', and a word is none of theirs
@@ -138,29 +139,29 @@ module _ (granted : List Term) (other : Terms) (verdicts : List Verdict) (g : Gr
       list_any (names (No addr why value)) granted ≡ true
   is_granted addr why value (ByAnswer is held bare) = subst (λ w. list_any (named_by w value) granted ≡ true) (sym is) (g.answers value held)
   is_granted addr why value (ByWord is held bare) =
-      let here = and_parts (not (have_named verdicts (Public value))) (list_any (is_word value) granted) (sym (public_told granted verdicts value) ∙ held) in
+      let here = and_parts (not (have_named verdicts (Public value))) (list_any (named_by DataAtExit value) granted) (sym (public_told granted verdicts value) ∙ held) in
       subst (λ w. list_any (named_by w value) granted ≡ true) (sym is) here.1
 
   answer_fresh : (n : ℕ) → on_list other.answers n ≡ true → on_list now.answers n ≡ false → have_named verdicts (Answer n) ≡ false
-  answer_fresh n held bare = by (and_cases (have_named verdicts (Answer n)) (list_any (is_register n) granted) (sym (answers_told granted verdicts n) ∙ bare))
+  answer_fresh n held bare = by (and_cases (have_named verdicts (Answer n)) (list_any (named_by SecretAtExit n) granted) (sym (answers_told granted verdicts n) ∙ bare))
     where
-      by : (have_named verdicts (Answer n) ≡ false) ⊎ (list_any (is_register n) granted ≡ false) → have_named verdicts (Answer n) ≡ false
+      by : (have_named verdicts (Answer n) ≡ false) ⊎ (list_any (named_by SecretAtExit n) granted ≡ false) → have_named verdicts (Answer n) ≡ false
       by (inl e) = e
-      by (inr e) = absurd (both_ways (list_any (is_register n) granted) e (g.answers n held))
+      by (inr e) = absurd (both_ways (list_any (named_by SecretAtExit n) granted) e (g.answers n held))
 
   word_fresh : (a : ℕ) → on_list now.public a ≡ true → have_named verdicts (Public a) ≡ false
-  word_fresh a held = not-true (have_named verdicts (Public a)) (and_parts (not (have_named verdicts (Public a))) (list_any (is_word a) granted) (sym (public_told granted verdicts a) ∙ held)).0
+  word_fresh a held = not-true (have_named verdicts (Public a)) (and_parts (not (have_named verdicts (Public a))) (list_any (named_by DataAtExit a) granted) (sym (public_told granted verdicts a) ∙ held)).0
 
   fresh : (v : Verdict) → IsForgiven now other v → (t : Term) → names v t ≡ true → have_named verdicts t ≡ false
   fresh Yes f t e = absurd cc
   fresh (No addr why value) (ByAnswer is held bare) t e = by t (subst (λ w. named_by w value t ≡ true) is e)
     where
-      by : (t : Term) → is_register value t ≡ true → have_named verdicts t ≡ false
+      by : (t : Term) → named_by SecretAtExit value t ≡ true → have_named verdicts t ≡ false
       by (Answer n) e = ap (λ k. have_named verdicts (Answer k)) (eqb-true n value e) ∙ answer_fresh value held bare
       by (Public a) e = absurd cc
   fresh (No addr why value) (ByWord is held bare) t e = by t (subst (λ w. named_by w value t ≡ true) is e)
     where
-      by : (t : Term) → is_word value t ≡ true → have_named verdicts t ≡ false
+      by : (t : Term) → named_by DataAtExit value t ≡ true → have_named verdicts t ≡ false
       by (Public a) e = ap (λ k. have_named verdicts (Public k)) (eqb-true a value e) ∙ word_fresh value held
       by (Answer n) e = absurd cc
 

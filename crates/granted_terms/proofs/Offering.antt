@@ -7,12 +7,13 @@ use Rattle.std.proofs.lemmas.List.Folds.{list_any_at}
 use Rattle.mod_layout.specs.declared.Module.{Module}
 use Rattle.flow_rule.specs.Arms.{VerdictUnder}
 use Rattle.flow_rule.specs.Terms.{Terms}
+use Rattle.flow_rule.specs.declared.Reason.TheVariants.{SecretAtExit, DataAtExit}
 use Rattle.flow_rule.specs.declared.Verdict.{Verdict}
 use Rattle.flow_rule.specs.declared.Verdict.TheVariants.{Yes, No}
 use Rattle.flow_laws.proofs.Telling.{on_list}
 use Rattle.terms_file.specs.declared.Term.{Term}
 use Rattle.terms_file.specs.declared.Term.TheVariants.{Answer, Public}
-use Rattle.cli_calls.specs.Offers.{told_by, is_register, is_word, names, standing_terms, IsOffered}
+use Rattle.cli_calls.specs.Offers.{told_by, named_by, names, standing_terms, IsOffered}
 use Rattle.granted_terms.specs.Laws.{AreGranted, GreatestTerms}
 use Rattle.granted_terms.proofs.Accepting.{IsForgiven, verdict_forgiven}
 use Rattle.granted_terms.proofs.Forgiven.{Within}
@@ -99,8 +100,8 @@ found test t ts e c = list_any_at test ts c.0 t c.1 (ap test c.2 ∙ e)
 granted_by : (granted : List Term) (other : Terms) → AreGranted granted other → Granted granted other
 granted_by granted other h =
     record {
-      answers = λ n e. found (is_register n) (Answer n) granted (eq-eqb n n refl) (on_from_all (λ k. Contains granted (Answer k)) other.answers h.answers n e);
-      public = λ a e. found (is_word a) (Public a) granted (eq-eqb a a refl) (on_from_all (λ k. Contains granted (Public k)) other.public h.public a e);
+      answers = λ n e. found (named_by SecretAtExit n) (Answer n) granted (eq-eqb n n refl) (on_from_all (λ k. Contains granted (Answer k)) other.answers h.answers n e);
+      public = λ a e. found (named_by DataAtExit a) (Public a) granted (eq-eqb a a refl) (on_from_all (λ k. Contains granted (Public k)) other.public h.public a e);
     }
 
 pub greatest_terms : GreatestTerms

@@ -15,9 +15,8 @@ use Rattle.terms_file.specs.declared.Term.{Term}
 use Rattle.terms_file.specs.Laws.{AnswersMayBe}
 use Rattle.cli_files.specs.declared.answers.Status.TheVariants.{Done}
 use Rattle.cli_calls.specs.Calls.{Serves, called}
-use Rattle.cli_calls.specs.Command.{Answer, IsJudged, IsAnswer}
+use Rattle.cli_calls.specs.Command.{Answer, IsJudged, IsAnswer, verdict_answer}
 use Rattle.cli_calls.specs.Offers.{told_by}
-use Rattle.cli_calls.specs.Verdicts.{verdict_status}
 use Rattle.cli_calls.specs.Words.{Text}
 use Rattle.cli_calls.specs.CommandNames.{command_of}
 use Rattle.lab_cli.specs.CommandLine.{lab_commands}
@@ -25,7 +24,7 @@ use Rattle.lab_cli.specs.ReleasedCommand.{judged_under, released_command}
 use Rattle.lab_cli.specs.Releases.{IsRelease}
 use Rattle.lab_cli.proofs.UnderTerms.{judged_done}
 
-only_yes : (v : Verdict) → verdict_status v ≡ Done → v ≡ Yes
+only_yes : (v : Verdict) → (verdict_answer v).status ≡ Done → v ≡ Yes
 only_yes Yes e = refl
 only_yes (No addr why value) e = cc
 

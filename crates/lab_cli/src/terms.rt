@@ -192,7 +192,7 @@ fn named_by(reason: Reason, value: u16, term: Term) -> bool
 }
 
 fn is_register(value: u16, term: Term) -> bool
-    ensures { result ≡ spec.is_register value term }
+    ensures { result ≡ spec.named_by Reason.SecretAtExit value term }
 {
     match term {
         Term::Answer(register) => u16::from(register) == value,
@@ -201,7 +201,7 @@ fn is_register(value: u16, term: Term) -> bool
 }
 
 fn is_word(value: u16, term: Term) -> bool
-    ensures { result ≡ spec.is_word value term }
+    ensures { result ≡ spec.named_by Reason.DataAtExit value term }
 {
     match term {
         Term::Answer(_) => false,

@@ -14,8 +14,7 @@ use Rattle.written_machine.specs.Peers.{section, DifferInData, Peers}
 use Rattle.peer_rows.specs.Laws.{AcceptedArePeers}
 use Rattle.cli_files.specs.declared.answers.Status.TheVariants.{Done}
 use Rattle.cli_files.specs.Files.{Held, an_image, certificates, image_with, arms_file, need, Holds, HoldAll}
-use Rattle.cli_calls.specs.Command.{Command, Answer, judges, Comes, Answers, IsJudged, IsAnswer}
-use Rattle.cli_calls.specs.Verdicts.{verdict_status}
+use Rattle.cli_calls.specs.Command.{Command, Answer, judges, Comes, Answers, IsJudged, IsAnswer, verdict_answer}
 use Rattle.sm_cli.specs.Serve.{call_of}
 use Rattle.sm_cli.specs.CheckCommand.{check_outcome, check_command}
 use Rattle.sm_cli.specs.BalanceCommand.{balance_outcome, balance_command}
@@ -25,7 +24,7 @@ use Rattle.sm_cli.proofs.OfModule.{of_module}
 use Rattle.sm_cli.proofs.ShortText.{short_text}
 use Rattle.cli_calls.proofs.Outcomes.{one_outcome}
 
-only_yes : (v : Verdict) → verdict_status v ≡ Done → v ≡ Yes
+only_yes : (v : Verdict) → (verdict_answer v).status ≡ Done → v ≡ Yes
 only_yes Yes e = refl
 only_yes (No addr why value) e = cc
 

@@ -25,7 +25,7 @@ use Rattle.cli_calls.specs.Command.{Answer, Answers, IsAnswer, done, run_status,
 use Rattle.sm_cli.specs.ImageCommand.{image_command}
 use Rattle.sm_cli.specs.Joins.{AreFiles, IsLinkedText, SaysYes, RunsAlike}
 use Rattle.sm_cli.specs.LinkCommand.{link_command, linked_image_text, text_answer}
-use Rattle.cli_calls.specs.Linking.{linked_by, objects_outcome, text_linked}
+use Rattle.cli_calls.specs.Linking.{linked, linked_by, objects_outcome}
 use Rattle.sm_cli.specs.RunCommand.{run_command}
 use Rattle.sm_cli.proofs.Checking.{check_accepted, balance_accepted}
 use Rattle.sm_cli.proofs.KeyBytes.{key_bytes}
@@ -57,7 +57,7 @@ module _ (files : FileMap) (layout_name : List ℕ) (names : List (List ℕ)) wh
       by [] h told = absurd h
       by (a_layout layout ∷ helds) h told =
           let objects = objects_of (Some files) names helds h.1 in
-          let outcome = ap (λ (l : List Held). objects_outcome linked_image_text (a_layout layout ∷ l)) objects.1 ∙ with_these (text_linked linked_image_text layout) objects.0 in
+          let outcome = ap (λ (l : List Held). objects_outcome linked_image_text (a_layout layout ∷ l)) objects.1 ∙ with_these (λ own. linked layout own (λ image. done (linked_image_text layout own))) objects.0 in
           linked_as layout objects.0 (link_fault_of layout objects.0) refl (subst (λ o. Answers o written) outcome told) h.0 (subst (λ l. HoldAll (Some files) (object_needs names) l) objects.1 h.1)
       by (held ∷ helds) h told = absurd h.0.is
 
