@@ -1,5 +1,6 @@
 -- What commands are answered, and why they are refused.
 use Rattle.std.proofs.Common.{◌≡◌, false, ℕ, List, [], ◌∷◌, ◌++◌, map, Option, Some, None, Result, Ok, Err, inl, inr, refl, sym, ◌∙◌, ap, ap₂, subst}
+use Rattle.std.specs.Option.{option_map_or}
 use Rattle.sm_io.specs.Faults.{HasCause}
 use Rattle.sm_io.specs.Files.{FileMap}
 use Rattle.sm_io.specs.Sink.{Took, CutOff, Puts}
@@ -22,7 +23,7 @@ use Rattle.cli_files.specs.declared.answers.Status.{Status}
 use Rattle.cli_files.specs.declared.answers.Status.TheVariants as status
 use Rattle.cli_calls.specs.Command.{Command, Answer, done, gives, runs, Comes, IsAnswer, Outcome, nothing, refuses, trace_answer}
 use Rattle.cli_calls.specs.ImageRuns.{image_run_command}
-use Rattle.cli_calls.specs.Linking.{objects_command, with_objects, linked, linked_by}
+use Rattle.cli_calls.specs.Linking.{objects_command, with_objects, linked}
 use Rattle.cli_calls.specs.Runs.{IsCommandCause, EndsAs, IsRun}
 
 -- what a command gives is its answer
@@ -88,6 +89,10 @@ module _ (files : Option FileMap) where
   some_objects outcome names helds h some e =
       let objects = objects_of names helds h in
       some objects.0 (sym (ap (with_objects outcome) objects.1 ∙ with_these outcome objects.0) ∙ e)
+
+-- what comes of linking, by the first refusal
+abbrev pub linked_by : LayoutValue → List ObjectValue → (Image → Outcome) → Option LinkFault → Outcome
+linked_by layout objects outcome fault = option_map_or (λ own. refuses own (symbol_name layout objects own)) fault (outcome (linked_image layout objects))
 
 module _ (layout : LayoutValue) (objects : List ObjectValue) (outcome : Image → Outcome) where
   -- objects that link come to what their image comes to

@@ -1,6 +1,6 @@
 -- Something comes of the files of a command.
 use Rattle.std.proofs.Common.{◌≡◌, ℕ, Bool, true, false, if◌then◌else◌, List, [], ◌∷◌, Option, Some, None, option_map, ◌∙◌, subst}
-use Rattle.std.specs.Prelude.{option_and_then}
+use Rattle.std.specs.Prelude.{cond, find, option_and_then}
 use Rattle.std.specs.Str.{bytes_eq}
 use Rattle.sm_io.specs.Files.{FileMap}
 use Rattle.image_text.specs.Image.{Image}
@@ -12,11 +12,11 @@ use Rattle.linker.specs.Refusals.{link_fault_of}
 use Rattle.cli_files.specs.Files.{Held, a_layout, a_schedule, an_image, HoldAll}
 use Rattle.cli_calls.specs.Command.{Command, Outcome, Comes, done, nothing}
 use Rattle.cli_calls.specs.ImageRuns.{image_run_command, read_image_run}
-use Rattle.cli_calls.specs.Linking.{linked, linked_by, objects_command, read_objects}
-use Rattle.cli_calls.specs.CommandNames.{NamedCommand, command_by, command_of}
+use Rattle.cli_calls.specs.Linking.{linked, objects_command, read_objects}
+use Rattle.cli_calls.specs.CommandNames.{NamedCommand, command_of}
 use Rattle.cli_calls.specs.Values.{read_cycles, file_named}
 use Rattle.cli_calls.specs.Words.{Text, values_within}
-use Rattle.cli_calls.proofs.Given.{some_objects}
+use Rattle.cli_calls.proofs.Given.{linked_by, some_objects}
 
 -- what files that serve the command hold comes to something
 abbrev pub Sound : Command → Type 0
@@ -86,12 +86,22 @@ abbrev pub AllSound : List NamedCommand → Type 0
 AllSound [] = Unit {0}
 AllSound (command ∷ commands) = ((vs : List Text) → IfSound (command.asks vs)) × AllSound commands
 
+-- what a command is, of the words after its name
+abbrev asked_by : List Text → NamedCommand → Option Command
+asked_by words command = option_and_then command.asks (values_within command.least command.most words)
+
 by_name : (commands : List NamedCommand) (name : Text) (words : List Text) → AllSound commands
-    → IfSound (command_by commands name words)
+    → IfSound (option_and_then (asked_by words) (find (λ command. bytes_eq name command.name) commands))
 by_name [] name words s = if_none
-by_name (command ∷ commands) name words s =
-    if_else (bytes_eq name command.name) _ _ (if_then command.asks (values_within command.least command.most words) s.0)
-    (by_name commands name words s.1)
+by_name (command ∷ commands) name words s = by (bytes_eq name command.name) (by_name commands name words s.1)
+  where
+    more : Option NamedCommand
+    more = find (λ other. bytes_eq name other.name) commands
+
+    by : (b : Bool) → IfSound (option_and_then (asked_by words) more)
+        → IfSound (option_and_then (asked_by words) (cond b (Some command) more))
+    by true rest = if_then command.asks (values_within command.least command.most words) s.0
+    by false rest = rest
 
 -- what comes of the files of a command line is something
 pub something_comes : (commands : List NamedCommand) → AllSound commands → (words : List Text) (map : FileMap)

@@ -1,5 +1,5 @@
 -- Which command the words of a call are.
-use Rattle.std.specs.Prelude.{ℕ, List, [], ◌∷◌, Option, None, option_and_then, if◌then◌else◌}
+use Rattle.std.specs.Prelude.{ℕ, List, [], ◌∷◌, Option, None, option_and_then, find}
 use Rattle.std.specs.Str.{bytes_eq}
 use Rattle.cli_calls.specs.Command.{Command}
 use Rattle.cli_calls.specs.Words.{Text, values_within}
@@ -11,14 +11,9 @@ pub record NamedCommand : Type 0 where
   pub most : ℕ
   pub asks : List Text → Option Command
 
--- by the first word
-abbrev pub command_by : List NamedCommand → Text → List Text → Option Command
-command_by [] name words = None
-command_by (command ∷ more) name words =
-    if bytes_eq name command.name then option_and_then command.asks (values_within command.least command.most words)
-    else command_by more name words
-
--- what the words ask for, or none
+-- what the words ask for, by the first of them, or none
 unfoldable pub command_of : List NamedCommand → List Text → Option Command
 command_of commands [] = None
-command_of commands (name ∷ words) = command_by commands name words
+command_of commands (name ∷ words) =
+    option_and_then (λ command. option_and_then command.asks (values_within command.least command.most words))
+    (find (λ command. bytes_eq name command.name) commands)

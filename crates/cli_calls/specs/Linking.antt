@@ -1,9 +1,9 @@
 -- What comes of a layout and objects.
 use Rattle.std.specs.Prelude.{ℕ, List, [], ◌∷◌, Option, Some, None}
+use Rattle.std.specs.Option.{option_map_or}
 use Rattle.image_text.specs.Image.{Image}
 use Rattle.layout_file.specs.Values.{LayoutValue}
 use Rattle.elf_objects.specs.Object.{ObjectValue}
-use Rattle.link_symbols.specs.declared.fault.LinkFault.{LinkFault}
 use Rattle.linker.specs.Image.{linked_image}
 use Rattle.linker.specs.Refusals.{link_fault_of}
 use Rattle.cli_files.specs.Files.{Held, a_layout, an_object, layout_file, need, object_needs}
@@ -17,13 +17,9 @@ with_objects outcome [] = outcome []
 with_objects outcome (an_object object ∷ more) = with_objects (λ objects. outcome (object ∷ objects)) more
 with_objects outcome _ = nothing
 
-abbrev pub linked_by : LayoutValue → List ObjectValue → (Image → Outcome) → Option LinkFault → Outcome
-linked_by layout objects outcome None = outcome (linked_image layout objects)
-linked_by layout objects outcome (Some fault) = refuses fault (symbol_name layout objects fault)
-
 -- what comes of linking: an outcome by the image, or the first refusal
 abbrev pub linked : LayoutValue → List ObjectValue → (Image → Outcome) → Outcome
-linked layout objects outcome = linked_by layout objects outcome (link_fault_of layout objects)
+linked layout objects outcome = option_map_or (λ fault. refuses fault (symbol_name layout objects fault)) (link_fault_of layout objects) (outcome (linked_image layout objects))
 
 -- ---- `LAYOUT OBJ..`: a text that is written of a layout and the objects that link
 

@@ -1,7 +1,7 @@
 //! The commands: which there are.
-ghost use Rattle.std.specs.Prelude.{◌≡◌, IfOk, IfSome, drop, option_map};
+ghost use Rattle.std.specs.Prelude.{◌≡◌, ◌∷◌, IfOk, IfSome, drop, option_map};
 ghost use Rattle.cli_calls.specs.Words.{texts};
-ghost use Rattle.cli_calls.specs.CommandNames.{command_by, command_of};
+ghost use Rattle.cli_calls.specs.CommandNames.{command_of};
 ghost use Rattle.lab_cli.specs.CommandLine.{lab_commands};
 ghost use Rattle.lab_cli.specs.internal.CommandLine.{lab_asks, IsLabBounded};
 
@@ -42,13 +42,14 @@ pub fn read_command<'a>(
 }
 
 // The command of a name, with the words after the first.
+#[tactic(auto, unfolding(cli_calls::specs::CommandNames::command_of))]
 fn command_by<'a>(
     alloc: Global,
     name: &str,
     words: &'a [String],
 ) -> Result<Option<LabCommand<'a>>, AllocError>
     ensures command { IfOk result (λ o. option_map lab_asks o
-        ≡ command_by lab_commands name.now (drop 1 (texts words.entry.now))) }
+        ≡ command_of lab_commands (name.now ∷ drop 1 (texts words.entry.now))) }
     ensures bounds { IfOk result (λ o. IfSome o IsLabBounded) }
 {
     if name == "map" {

@@ -25,13 +25,13 @@ use Rattle.cli_calls.specs.Command.{Answer, Answers, IsAnswer, done, run_status,
 use Rattle.sm_cli.specs.ImageCommand.{image_command}
 use Rattle.sm_cli.specs.Joins.{AreFiles, IsLinkedText, SaysYes, RunsAlike}
 use Rattle.sm_cli.specs.LinkCommand.{link_command, linked_image_text, text_answer}
-use Rattle.cli_calls.specs.Linking.{linked, linked_by, objects_outcome}
+use Rattle.cli_calls.specs.Linking.{linked, objects_outcome}
 use Rattle.sm_cli.specs.RunCommand.{run_command}
 use Rattle.sm_cli.proofs.Checking.{check_accepted, balance_accepted}
 use Rattle.sm_cli.proofs.KeyBytes.{key_bytes}
 use Rattle.cli_calls.proofs.Outcomes.{one_answer}
 use Rattle.sm_cli.proofs.Running.{linked_runs}
-use Rattle.cli_calls.proofs.Given.{image_run_comes, objects_of, runs_answer, with_these}
+use Rattle.cli_calls.proofs.Given.{image_run_comes, linked_by, objects_of, runs_answer, with_these}
 use Rattle.sm_cli.proofs.ShortText.{short_text}
 
 module _ (files : FileMap) (layout_name : List ℕ) (names : List (List ℕ)) where

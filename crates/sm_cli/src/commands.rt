@@ -1,6 +1,6 @@
 // The commands: which there are.
-ghost use Rattle.std.specs.Prelude.{◌≡◌, IfOk, IfSome, drop, option_and_then, option_map};
-ghost use Rattle.cli_calls.specs.CommandNames.{command_by, command_of};
+ghost use Rattle.std.specs.Prelude.{◌≡◌, ◌∷◌, IfOk, IfSome, drop, option_and_then, option_map};
+ghost use Rattle.cli_calls.specs.CommandNames.{command_of};
 ghost use Rattle.sm_cli.specs.CommandLine.{sancus_commands};
 ghost use Rattle.sm_cli.specs.internal.CommandLine.{asked, IsCommandBounded};
 ghost use Rattle.sm_cli.specs.MakeCommand.{read_make};
@@ -73,13 +73,14 @@ pub fn read_command<'a>(
 }
 
 // The command of a name, with the words after the first.
+#[tactic(auto, unfolding(cli_calls::specs::CommandNames::command_of))]
 fn command_by<'a>(
     alloc: Global,
     name: &str,
     words: &'a [String],
 ) -> Result<Option<CommandLine<'a>>, AllocError>
     ensures command { IfOk result (λ o. option_map asked o
-        ≡ command_by sancus_commands name.now (drop 1 (texts words.entry.now))) }
+        ≡ command_of sancus_commands (name.now ∷ drop 1 (texts words.entry.now))) }
     ensures bounds { IfOk result (λ o. IfSome o IsCommandBounded) }
 {
     if name == "image" {
