@@ -10,7 +10,7 @@ use Rattle.flow_rule.proofs.Ends.{some_verdict}
 use Rattle.flow_rule.proofs.OneVerdict.{one_verdict}
 use Rattle.mod_layout.specs.declared.Module.{Module}
 use Rattle.terms_file.specs.declared.Term.{Term}
-use Rattle.cli_calls.specs.Offers.{told_by, names, standing_terms, IsOffered}
+use Rattle.cli_calls.specs.Offers.{terms_by, names, standing_terms, IsOffered}
 
 module _ (owner : Module) (text : List ℕ) (arms : List Arm) (granted : List Term) where
   one_under : (terms : Terms) (v w : Verdict) → VerdictUnder terms owner text arms v
@@ -39,9 +39,9 @@ module _ (owner : Module) (text : List ℕ) (arms : List Arm) (granted : List Te
       → (xs ≡ ys) × (v ≡ w)
   one_offer zero verdicts xs ys v w r s =
       let same : ys ≡ xs = s.0 ∙ sym r.0 in
-      (sym same, one_under (told_by xs) v w r.1 (subst (λ ts. VerdictUnder (told_by ts) owner text arms w) same s.1))
+      (sym same, one_under (terms_by xs) v w r.1 (subst (λ ts. VerdictUnder (terms_by ts) owner text arms w) same s.1))
   one_offer (suc n) verdicts xs ys v w r s =
-      let same : s.0 ≡ r.0 = one_under (told_by (standing_terms granted verdicts)) s.0 r.0 s.1 r.1 in
+      let same : s.0 ≡ r.0 = one_under (terms_by (standing_terms granted verdicts)) s.0 r.0 s.1 r.1 in
       one_of (list_any (names r.0) granted) n verdicts r.0 xs ys v w (one_offer n (verdicts ++ (r.0 ∷ [])) xs ys v w)
       r.2 (subst (λ now. Then n verdicts now (list_any (names now) granted) ys w) same s.2)
 
@@ -49,7 +49,7 @@ module _ (owner : Module) (text : List ℕ) (arms : List Arm) (granted : List Te
   Offered n verdicts = (terms : List Term) × (v : Verdict) × IsOffered owner text arms granted n verdicts terms v
 
   some_of : (n : ℕ) (verdicts : List Verdict) (now : Verdict)
-      → VerdictUnder (told_by (standing_terms granted verdicts)) owner text arms now → Offered n (verdicts ++ (now ∷ []))
+      → VerdictUnder (terms_by (standing_terms granted verdicts)) owner text arms now → Offered n (verdicts ++ (now ∷ []))
       → (b : Bool) → list_any (names now) granted ≡ b → Offered (suc n) verdicts
   some_of n verdicts now is more true e = (
     more.0,
@@ -70,25 +70,25 @@ module _ (owner : Module) (text : List ℕ) (arms : List Arm) (granted : List Te
   -- something is
   pub some_offer : (n : ℕ) (verdicts : List Verdict) → Offered n verdicts
   some_offer zero verdicts =
-      let v = some_under (told_by (standing_terms granted verdicts)) in
+      let v = some_under (terms_by (standing_terms granted verdicts)) in
       (standing_terms granted verdicts, v.0, (refl, v.1))
   some_offer (suc n) verdicts =
-      let now = some_under (told_by (standing_terms granted verdicts)) in
+      let now = some_under (terms_by (standing_terms granted verdicts)) in
       some_of n verdicts now.0 now.1 (some_offer n (verdicts ++ (now.0 ∷ []))) (list_any (names now.0) granted) refl
 
   -- granted terms that stand after some verdicts, with their verdict
   abbrev pub AreStanding : List Term → Verdict → Type 0
   AreStanding terms v = (named : List Verdict) × (terms ≡ standing_terms granted named)
-      × VerdictUnder (told_by terms) owner text arms v
+      × VerdictUnder (terms_by terms) owner text arms v
 
   standing_of : (b : Bool) (n : ℕ) (verdicts : List Verdict) (now : Verdict) (terms : List Term) (v : Verdict)
-      → VerdictUnder (told_by (standing_terms granted verdicts)) owner text arms now
+      → VerdictUnder (terms_by (standing_terms granted verdicts)) owner text arms now
       → (IsOffered owner text arms granted n (verdicts ++ (now ∷ [])) terms v → AreStanding terms v)
       → Then n verdicts now b terms v → AreStanding terms v
   standing_of true n verdicts now terms v is more h = more h
   standing_of false n verdicts now terms v is more h =
-      let under = subst (λ w. VerdictUnder (told_by (standing_terms granted verdicts)) owner text arms w) (sym h.1) is in
-      (verdicts, h.0, subst (λ ts. VerdictUnder (told_by ts) owner text arms v) (sym h.0) under)
+      let under = subst (λ w. VerdictUnder (terms_by (standing_terms granted verdicts)) owner text arms w) (sym h.1) is in
+      (verdicts, h.0, subst (λ ts. VerdictUnder (terms_by ts) owner text arms v) (sym h.0) under)
 
   -- what is offered are such terms
   pub is_standing : (n : ℕ) (verdicts : List Verdict) (terms : List Term) (v : Verdict)

@@ -14,8 +14,8 @@ use Rattle.terms_file.specs.declared.Term.TheVariants.{Answer, Public}
 use Rattle.terms_file.specs.Terms.{registers_in, addresses_in}
 
 -- what the lines of a text of terms say
-abbrev pub told_by : List Term → Terms
-told_by terms = record { answers = registers_in terms; public = addresses_in terms }
+abbrev pub terms_by : List Term → Terms
+terms_by terms = record { answers = registers_in terms; public = addresses_in terms }
 
 -- a register that is secret where a call ends, a word that is where the module leaves
 abbrev pub named_by : Reason → ℕ → Term → Bool
@@ -44,8 +44,8 @@ module _ (owner : Module) (text : List ℕ) (arms : List Arm) (granted : List Te
   -- the text is judged under the terms that stand, and again while the verdict names a granted term, so often at most
   abbrev pub IsOffered : ℕ → List Verdict → List Term → Verdict → Type 0
   IsOffered zero verdicts terms v =
-      (terms ≡ standing_terms granted verdicts) × VerdictUnder (told_by terms) owner text arms v
+      (terms ≡ standing_terms granted verdicts) × VerdictUnder (terms_by terms) owner text arms v
   IsOffered (suc n) verdicts terms v =
-      (now : Verdict) × VerdictUnder (told_by (standing_terms granted verdicts)) owner text arms now
+      (now : Verdict) × VerdictUnder (terms_by (standing_terms granted verdicts)) owner text arms now
       × MatchBool (list_any (names now) granted) (IsOffered n (verdicts ++ (now ∷ [])) terms v)
       ((terms ≡ standing_terms granted verdicts) × (v ≡ now))

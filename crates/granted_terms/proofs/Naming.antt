@@ -13,7 +13,7 @@ use Rattle.flow_laws.proofs.Telling.{on_list}
 use Rattle.terms_file.specs.declared.Term.{Term}
 use Rattle.terms_file.specs.declared.Term.TheVariants.{Answer, Public}
 use Rattle.terms_file.specs.Terms.{registers_in, addresses_in}
-use Rattle.cli_calls.specs.Offers.{told_by, named_by, names, have_named, stands, standing_terms}
+use Rattle.cli_calls.specs.Offers.{terms_by, named_by, names, have_named, stands, standing_terms}
 use Rattle.granted_terms.proofs.Forgiven.{Within, ByAnswer, ByWord}
 use Rattle.granted_terms.proofs.Accepting.{IsForgiven}
 
@@ -53,7 +53,7 @@ any_kept test stay b h (t ∷ ts) = by (test t) (stay t) refl refl (any_kept tes
     by false false e f go = go
 
 abbrev pub told : List Term → List Verdict → Terms
-told granted verdicts = told_by (standing_terms granted verdicts)
+told granted verdicts = terms_by (standing_terms granted verdicts)
 
 module _ (granted : List Term) (verdicts : List Verdict) where
   answers_told : (n : ℕ) → on_list (told granted verdicts).answers n ≡ (have_named verdicts (Answer n) && list_any (named_by SecretAtExit n) granted)

@@ -13,7 +13,7 @@ use Rattle.flow_rule.specs.declared.Verdict.TheVariants.{Yes, No}
 use Rattle.flow_laws.proofs.Telling.{on_list}
 use Rattle.terms_file.specs.declared.Term.{Term}
 use Rattle.terms_file.specs.declared.Term.TheVariants.{Answer, Public}
-use Rattle.cli_calls.specs.Offers.{told_by, named_by, names, standing_terms, IsOffered}
+use Rattle.cli_calls.specs.Offers.{terms_by, named_by, names, standing_terms, IsOffered}
 use Rattle.granted_terms.specs.Laws.{AreGranted, GreatestTerms}
 use Rattle.granted_terms.proofs.Accepting.{IsForgiven, verdict_forgiven}
 use Rattle.granted_terms.proofs.Forgiven.{Within}
@@ -33,12 +33,12 @@ module _ (owner : Module) (text : List ℕ) (granted : List Term) (other : Terms
       absurd (both_ways (list_any (names (No addr why value)) granted) e (is_granted granted other verdicts g d addr why value f))
 
   abbrev Best : List Term → Verdict → Type 0
-  Best terms v = (v ≡ Yes) × Within (told_by terms) other
+  Best terms v = (v ≡ Yes) × Within (terms_by terms) other
 
   at_end : (verdicts : List Verdict) (terms : List Term) (v : Verdict) → Named other verdicts → IsForgiven (told granted verdicts) other v →
       terms ≡ standing_terms granted verdicts → list_any (names v) granted ≡ false → Best terms v
   at_end verdicts terms v d f e none =
-      (ended verdicts d v f none, subst (λ ts. Within (told_by ts) other) (sym e) (within granted other verdicts g d))
+      (ended verdicts d v f none, subst (λ ts. Within (terms_by ts) other) (sym e) (within granted other verdicts g d))
 
   abbrev More : ℕ → List Verdict → List Term → Verdict → Type 0
   More n verdicts terms v = IsOffered owner text [] granted n verdicts terms v
@@ -46,7 +46,7 @@ module _ (owner : Module) (text : List ℕ) (granted : List Term) (other : Terms
   best : (n : ℕ) (verdicts : List Verdict) (terms : List Term) (v : Verdict) → Named other verdicts → unnamed verdicts granted ≤ n →
       More n verdicts terms v → Best terms v
   best zero verdicts terms v d few is =
-      let under = subst (λ ts. VerdictUnder (told_by ts) owner text [] v) is.0 is.1 in
+      let under = subst (λ ts. VerdictUnder (terms_by ts) owner text [] v) is.0 is.1 in
       let f = now_forgiven verdicts d v under in
       at_end verdicts terms v d f is.0 (none (list_any (names v) granted) refl f)
     where
@@ -109,7 +109,7 @@ greatest_terms owner text granted offered verdict others is are accepted =
     let b = best owner text granted others (granted_by granted others are) accepted (length granted) [] offered verdict (none_named others) (all_unnamed granted) is in (
       b.0,
       record {
-        public = all_from_on (Contains (told_by offered).public) others.public (λ a e. contained (told_by offered).public a (b.1.public a e));
-        answers = all_from_on (Contains others.answers) (told_by offered).answers (λ n e. contained others.answers n (b.1.answers n e));
+        public = all_from_on (Contains (terms_by offered).public) others.public (λ a e. contained (terms_by offered).public a (b.1.public a e));
+        answers = all_from_on (Contains others.answers) (terms_by offered).answers (λ n e. contained others.answers n (b.1.answers n e));
       },
     )

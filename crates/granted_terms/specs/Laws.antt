@@ -7,7 +7,7 @@ use Rattle.flow_rule.specs.Terms.{Terms}
 use Rattle.flow_rule.specs.declared.Verdict.{Verdict}
 use Rattle.flow_rule.specs.declared.Verdict.TheVariants.{Yes}
 use Rattle.flow_rule.specs.Arms.{VerdictUnder}
-use Rattle.cli_calls.specs.Offers.{told_by, IsOffered}
+use Rattle.cli_calls.specs.Offers.{terms_by, IsOffered}
 
 -- terms of which each is granted
 pub record AreGranted (granted : List Term) (terms : Terms) : Type 0 where
@@ -24,4 +24,4 @@ abbrev pub GreatestTerms : Type 0
 GreatestTerms = (owner : Module) (text : List ℕ) (granted offered : List Term) (verdict : Verdict) (others : Terms) →
     IsOffered owner text [] granted (length granted) [] offered verdict →
     AreGranted granted others → VerdictUnder others owner text [] Yes →
-    (verdict ≡ Yes) × AreNoLess (told_by offered) others
+    (verdict ≡ Yes) × AreNoLess (terms_by offered) others

@@ -14,7 +14,7 @@ use Rattle.terms_file.specs.Terms.{terms_text}
 use Rattle.cli_files.specs.declared.answers.Status.TheVariants.{Done}
 use Rattle.cli_calls.specs.Calls.{Serves, called}
 use Rattle.cli_calls.specs.Command.{Answer, offers, offer_answer, IsOffer, IsAnswer}
-use Rattle.cli_calls.specs.Offers.{told_by, stands}
+use Rattle.cli_calls.specs.Offers.{terms_by, stands}
 use Rattle.cli_calls.specs.Words.{Text}
 use Rattle.cli_calls.proofs.Offering.{is_standing}
 use Rattle.cli_calls.specs.CommandNames.{command_of}
@@ -44,7 +44,7 @@ accepted value owner granted arms answer P status taken o =
       test = stands stand.0;
       granted_ones = stand.1;
       arms = arms;
-      accepted = subst (λ v. VerdictUnder (told_by o.terms) owner text arms v) yes stand.2;
+      accepted = subst (λ v. VerdictUnder (terms_by o.terms) owner text arms v) yes stand.2;
     }
 
 pub are_accepted : (words : List Text) (files : Option FileMap) (before after : ℕ) (took : List ℕ → Type 0)

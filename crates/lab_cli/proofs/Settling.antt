@@ -8,7 +8,7 @@ use Rattle.flow_rule.specs.declared.Verdict.{Verdict}
 use Rattle.flow_rule.specs.Arms.{VerdictUnder}
 use Rattle.mod_layout.specs.declared.Module.{Module}
 use Rattle.terms_file.specs.declared.Term.{Term}
-use Rattle.cli_calls.specs.Offers.{told_by, names, standing_terms, IsOffered}
+use Rattle.cli_calls.specs.Offers.{terms_by, names, standing_terms, IsOffered}
 
 -- one more term, if it passes the test
 one_kept : (b : Bool) (x : Term) (rest : List Term) → cond b (x ∷ []) [] ++ rest ≡ cond b (x ∷ rest) rest
@@ -36,7 +36,7 @@ module _ (owner : Module) (text : List ℕ) (arms : List Arm) (granted : List Te
   Offers left verdicts terms v = IsOffered owner text arms granted left verdicts terms v
 
   abbrev Under : List Term → Verdict → Type 0
-  Under terms v = VerdictUnder (told_by terms) owner text arms v
+  Under terms v = VerdictUnder (terms_by terms) owner text arms v
 
   -- where no verdict is left, or the verdict names no granted term
   pub ends_here : (left : ℕ) (verdicts : List Verdict) (terms : List Term) (v : Verdict)

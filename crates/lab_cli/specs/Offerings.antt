@@ -11,7 +11,7 @@ use Rattle.written_machine.specs.Peers.{section}
 use Rattle.terms_file.specs.declared.Term.{Term}
 use Rattle.terms_file.specs.Terms.{terms_text}
 use Rattle.cli_files.specs.Files.{an_image, the_terms, image_with, terms_file, need, Holds}
-use Rattle.cli_calls.specs.Offers.{told_by}
+use Rattle.cli_calls.specs.Offers.{terms_by}
 use Rattle.cli_calls.specs.Words.{Text}
 use Rattle.cli_calls.specs.CommandNames.{command_of}
 use Rattle.lab_cli.specs.CommandLine.{lab_commands}
@@ -38,4 +38,4 @@ pub record AreAccepted (value : Image) (owner : Module) (granted : List Term) (P
   pub test : Term → Bool
   pub granted_ones : terms ≡ filter test granted
   pub arms : List Arm
-  pub accepted : VerdictUnder (told_by terms) owner (section owner.text value.memory) arms Yes
+  pub accepted : VerdictUnder (terms_by terms) owner (section owner.text value.memory) arms Yes

@@ -3,7 +3,7 @@ ghost use Rattle.std.specs.Prelude.{IfOk};
 ghost use Rattle.flow_rule.specs.Arms.{VerdictUnder};
 ghost use Rattle.mod_layout.specs.Tables.{IsModule};
 ghost use Rattle.written_machine.specs.Peers.{section};
-ghost use Rattle.cli_calls.specs.Offers.{told_by};
+ghost use Rattle.cli_calls.specs.Offers.{terms_by};
 ghost use Rattle.lab_cli.specs.ReleasedCommand.{judged_under};
 
 use crate::under_terms::{JudgedText, Told};
@@ -40,7 +40,7 @@ pub fn verdict_under(
     arms: &Arms,
 ) -> Result<Verdict, AllocError>
     requires { IsModule chosen.now.image.table.given chosen.now.«module» }
-    ensures { IfOk result (λ v. VerdictUnder (told_by terms.now.list.items) chosen.now.«module»
+    ensures { IfOk result (λ v. VerdictUnder (terms_by terms.now.list.items) chosen.now.«module»
         (section chosen.now.«module».text chosen.now.image.memory) arms.now.list.items v) }
 {
     let answers = terms_file::answers(alloc, terms.list.as_slice())?;

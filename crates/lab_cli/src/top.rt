@@ -8,7 +8,7 @@ ghost use Rattle.cli_files.specs.declared.answers.Status.{Status as Statuses};
 ghost use Rattle.cli_files.specs.Files.{IsFirstFault};
 ghost use Rattle.cli_calls.specs.Calls.{Completes, Ended, IsOrOutside, Refuses, called};
 ghost use Rattle.cli_calls.specs.Command.{Command, Comes, IfAnswered, Outcome, refuses};
-ghost use Rattle.cli_calls.specs.Offers.{told_by};
+ghost use Rattle.cli_calls.specs.Offers.{terms_by};
 ghost use Rattle.cli_calls.specs.Words.{texts};
 ghost use Rattle.image_text.specs.Image.{Image};
 ghost use Rattle.mod_layout.specs.declared.Module.{Module};
@@ -66,8 +66,8 @@ pub fn serve<F: Files, O: Sink, E: Sink>(
     // A module judged yes under terms: every image that differs in its data alone, and in no public word, is a peer but for the answers.
     ensures released { result ≡ Status.Done → (value other : Image) (id : ℕ) (owner : Module) (terms : List Term) →
         IsRelease (texts words.now) (F.content files.old) value id terms → DifferInData value other id owner →
-        AgreeOn owner (told_by terms).public (section owner.ram value.memory) (section owner.ram other.memory) →
-        PeersBut value other id (told_by terms).answers }
+        AgreeOn owner (terms_by terms).public (section owner.ram value.memory) (section owner.ram other.memory) →
+        PeersBut value other id (terms_by terms).answers }
 
     // Terms that are offered are some of the granted ones, and the module is judged yes under them.
     ensures offered { result ≡ Status.Done → (value : Image) (owner : Module) (granted : List Term) →
