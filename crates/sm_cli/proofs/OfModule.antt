@@ -6,8 +6,8 @@ use Rattle.mod_layout.specs.Table.{module_of}
 use Rattle.image_text.specs.Image.{Image}
 use Rattle.cli_files.specs.Files.{Held, an_image}
 use Rattle.cli_calls.specs.Command.{Outcome, nothing}
-use Rattle.sm_cli.specs.ModuleCommand.{with_module}
+use Rattle.sm_cli.specs.ModuleCommand.{with_chosen}
 
 pub of_module : (outcome : Image → Module → List Held → Outcome) (value : Image) (id : ℕ) (m : Module) (more : List Held) → module_of id value.table ≡ Some m
-    → with_module id outcome (an_image value ∷ more) ≡ outcome value m more
+    → with_chosen id outcome (an_image value ∷ more) ≡ outcome value m more
 of_module outcome value id m more e = ap (λ o. option_map_or (λ n. outcome value n more) o nothing) e

@@ -9,14 +9,14 @@ use Rattle.cli_calls.specs.Words.{Text}
 use Rattle.cli_calls.specs.Ids.{id_of}
 use Rattle.cli_files.specs.Files.{Held, certificates, arms_file, image_with, need}
 use Rattle.cli_calls.specs.Command.{Outcome, judges, nothing, Command}
-use Rattle.sm_cli.specs.ModuleCommand.{with_module}
+use Rattle.sm_cli.specs.ModuleCommand.{with_chosen}
 
 abbrev pub balance_outcome : Image → Module → List Held → Outcome
 balance_outcome value m (certificates arms ∷ []) = judges no_terms m (section m.text value.memory) arms
 balance_outcome value m _ = nothing
 
 abbrev pub balance_command : Text → ℕ → Text → Command
-balance_command name id arms = record { needs = need name (image_with id) ∷ need arms arms_file ∷ []; outcome = with_module id balance_outcome }
+balance_command name id arms = record { needs = need name (image_with id) ∷ need arms arms_file ∷ []; outcome = with_chosen id balance_outcome }
 
 abbrev pub read_balance : List Text → Option Command
 read_balance (name ∷ id ∷ arms ∷ []) = option_map (λ n. balance_command name n arms) (id_of id)

@@ -9,14 +9,14 @@ use Rattle.cli_calls.specs.Words.{Text}
 use Rattle.cli_calls.specs.Ids.{id_of}
 use Rattle.cli_files.specs.Files.{Held, image_with, need}
 use Rattle.cli_calls.specs.Command.{Outcome, judges, nothing, Command}
-use Rattle.sm_cli.specs.ModuleCommand.{with_module}
+use Rattle.sm_cli.specs.ModuleCommand.{with_chosen}
 
 abbrev pub check_outcome : Image → Module → List Held → Outcome
 check_outcome value m [] = judges no_terms m (section m.text value.memory) []
 check_outcome value m _ = nothing
 
 abbrev pub check_command : Text → ℕ → Command
-check_command name id = record { needs = need name (image_with id) ∷ []; outcome = with_module id check_outcome }
+check_command name id = record { needs = need name (image_with id) ∷ []; outcome = with_chosen id check_outcome }
 
 abbrev pub read_check : List Text → Option Command
 read_check (name ∷ id ∷ []) = option_map (check_command name) (id_of id)

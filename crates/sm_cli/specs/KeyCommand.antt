@@ -10,7 +10,7 @@ use Rattle.cli_calls.specs.Words.{Text}
 use Rattle.cli_calls.specs.Ids.{id_of}
 use Rattle.cli_files.specs.Files.{Held, image_with, need}
 use Rattle.cli_calls.specs.Command.{Outcome, done, nothing, Command}
-use Rattle.sm_cli.specs.ModuleCommand.{with_module}
+use Rattle.sm_cli.specs.ModuleCommand.{with_chosen}
 
 -- the line of a key
 abbrev pub named_key_line : List ℕ → List ℕ → List ℕ
@@ -27,7 +27,7 @@ key_outcome value m [] = done (key_lines value m)
 key_outcome value m _ = nothing
 
 abbrev pub key_command : Text → ℕ → Command
-key_command name id = record { needs = need name (image_with id) ∷ []; outcome = with_module id key_outcome }
+key_command name id = record { needs = need name (image_with id) ∷ []; outcome = with_chosen id key_outcome }
 
 abbrev pub read_key : List Text → Option Command
 read_key (name ∷ id ∷ []) = option_map (key_command name) (id_of id)

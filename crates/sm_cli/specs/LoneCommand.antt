@@ -20,7 +20,7 @@ use Rattle.sm_cli.specs.Numbers.{number_line}
 use Rattle.sm_cli.specs.Pairs.{pairs_in, core_with}
 use Rattle.cli_files.specs.Files.{Held, image_with, need}
 use Rattle.cli_calls.specs.Command.{Answer, Outcome, gives, nothing, Command}
-use Rattle.sm_cli.specs.ModuleCommand.{with_module}
+use Rattle.sm_cli.specs.ModuleCommand.{with_chosen}
 
 -- the caller's id where no module calls
 abbrev pub no_caller : ℕ
@@ -54,7 +54,7 @@ lone_outcome limit registers value m [] = gives (end_answer limit (call_answer (
 lone_outcome limit registers value m _ = nothing
 
 abbrev pub lone_command : Text → ℕ → ℕ → List ℕ → Command
-lone_command name id limit registers = record { needs = need name (image_with id) ∷ []; outcome = with_module id (lone_outcome limit registers) }
+lone_command name id limit registers = record { needs = need name (image_with id) ∷ []; outcome = with_chosen id (lone_outcome limit registers) }
 
 abbrev pub lone_with : Text → Option ℕ → Option ℕ → Option (List Pair) → Option Command
 lone_with name (Some id) (Some limit) (Some pairs) = Some (lone_command name id limit (core_with pairs))

@@ -14,7 +14,7 @@ use Rattle.cli_calls.specs.Words.{Text}
 use Rattle.cli_calls.specs.Ids.{id_of}
 use Rattle.cli_files.specs.Files.{Held, the_challenges, the_replies, image_with, challenges_file, trace_file, Need, need}
 use Rattle.cli_calls.specs.Command.{Answer, Outcome, gives, nothing, Command}
-use Rattle.sm_cli.specs.ModuleCommand.{with_module}
+use Rattle.sm_cli.specs.ModuleCommand.{with_chosen}
 
 -- the status of a report where all are genuine, or not
 abbrev pub report_status : Bool → Status
@@ -38,7 +38,7 @@ abbrev pub exchange_needs : Text → Text → List Need
 exchange_needs challenges trace = need challenges challenges_file ∷ need trace trace_file ∷ []
 
 abbrev pub vendor_command : Text → Text → Text → ℕ → List ℕ → Command
-vendor_command image challenges trace id provider = record { needs = need image (image_with id) ∷ exchange_needs challenges trace; outcome = with_module id (vendor_outcome provider) }
+vendor_command image challenges trace id provider = record { needs = need image (image_with id) ∷ exchange_needs challenges trace; outcome = with_chosen id (vendor_outcome provider) }
 
 abbrev pub read_vendor : List Text → Option Command
 read_vendor (image ∷ id ∷ provider ∷ challenges ∷ trace ∷ []) =

@@ -2,5 +2,5 @@
 use Rattle.link_symbols.specs.Passes.{NumberedObject}
 use Rattle.linker.specs.declared.memory.Numbered.{Numbered}
 
-abbrev pub numbered_value : Numbered → NumberedObject
-numbered_value x = record { number = x.number; first = x.first; object = x.object.now }
+abbrev pub numbered_of : Numbered → NumberedObject
+numbered_of x = record { number = x.number; first = x.first; object = x.object.now }
