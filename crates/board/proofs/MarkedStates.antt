@@ -1,7 +1,9 @@
 -- The states of the marks of a board.
-use Rattle.std.proofs.Common.{◌≡◌, ℕ, zero, suc, ◌+◌, ◌-◌, ◌<◌, List, [], ◌∷◌, ◌++◌, length, take, get_or, refl, sym, ◌∙◌, ap, subst, arith, Bool, true, false, ◌==◌}
-use Rattle.std.proofs.lemmas.Bool.Decides.{nat_tests}
-use Rattle.std.proofs.lemmas.List.{get_or_append_left, get_or-append_right, get_or-take, get_or_default, length-append, length-take-le}
+use Rattle.std.proofs.Common.{◌≡◌, ℕ, zero, suc, ◌+◌, ◌<◌, List, [], ◌∷◌, ◌++◌, length, take, get_or, refl, sym, ap, subst, arith}
+use Rattle.std.specs.List.{All, AllPairs}
+use Rattle.std.proofs.lemmas.List.{get_or-take, length-take-le}
+use Rattle.std.proofs.lemmas.List.Elements.{All-from_get_or, All-more, All-push, All-weaker}
+use Rattle.std.proofs.lemmas.List.Quantifiers.{all_pairs_push}
 use Rattle.written_machine.specs.Cycle.{after_cycles}
 use Rattle.written_machine.specs.State.{State}
 use Rattle.board.specs.declared.moment.Moment.{Moment}
@@ -40,62 +42,27 @@ chained_on n ms s c = record { between = c.between; onward = λ i d within. lead
 
 -- with the present state as one more mark
 pub chained_more : (ms : List State) (s : State) → Chained ms s → Chained (ms ++ s ∷ []) s
-chained_more ms s c = record { between = between; onward = onward }
-  where
-    old : (i : ℕ) (d : State) → i < length ms → get_or (ms ++ s ∷ []) i d ≡ get_or ms i d
-    old i d h = get_or_append_left ms (s ∷ []) d i h
-
-    new : (i : ℕ) (d : State) → i ≡ length ms → get_or (ms ++ s ∷ []) i d ≡ s
-    new i d e =
-        get_or-append_right ms (s ∷ []) (length ms) i d refl (omega (arith, e))
-        ∙ (let z : i - length ms ≡ 0 = omega (arith, e) in ap (λ k. get_or (s ∷ []) k d) z)
-
-    onward_by : (i : ℕ) (d : State) (b : Bool) → (i == length ms) ≡ b → i < length ms + 1 → LeadsTo (get_or (ms ++ s ∷ []) i d) s
-    onward_by i d true e h = let at : i ≡ length ms = grind (arith, nat_tests) in subst (λ x. LeadsTo x s) (sym (new i d at)) (leads_self s)
-    onward_by i d false e h =
-        let before : i < length ms = grind (arith, nat_tests) in
-        subst (λ x. LeadsTo x s) (sym (old i d before)) (c.onward i d before)
-
-    size : length (ms ++ s ∷ []) ≡ length ms + 1
-    size = length-append ms (s ∷ [])
-
-    onward : (i : ℕ) (d : State) → i < length (ms ++ s ∷ []) → LeadsTo (get_or (ms ++ s ∷ []) i d) s
-    onward i d h = onward_by i d (i == length ms) refl (omega (arith, h, size))
-
-    between_by : (i j : ℕ) (d : State) (b : Bool) → (j == length ms) ≡ b → i < j → j < length ms + 1 → LeadsTo (get_or (ms ++ s ∷ []) i d) (get_or (ms ++ s ∷ []) j d)
-    between_by i j d true e before h =
-        let at : j ≡ length ms = grind (arith, nat_tests) in
-        subst (LeadsTo (get_or (ms ++ s ∷ []) i d)) (sym (new j d at)) (onward i d (omega (arith, size, before, h)))
-    between_by i j d false e before h =
-        let within : j < length ms = grind (arith, nat_tests) in
-        subst (LeadsTo (get_or (ms ++ s ∷ []) i d)) (sym (old j d within)) (subst (λ x. LeadsTo x (get_or ms j d)) (sym (old i d (omega (arith, before, within)))) (c.between i j d before within))
-
-    between : (i j : ℕ) (d : State) → i < j → j < length (ms ++ s ∷ []) → LeadsTo (get_or (ms ++ s ∷ []) i d) (get_or (ms ++ s ∷ []) j d)
-    between i j d before h = between_by i j d (j == length ms) refl before (omega (arith, h, size))
+chained_more ms s c = record { between = all_pairs_push LeadsTo ms s c.between c.onward; onward = All-push (λ m. LeadsTo m s) ms s c.onward (leads_self s) }
 
 -- some cycles after mark k, with the marks up to it alone
 pub chained_cut : (n k : ℕ) (ms : List State) (s d : State) → Chained ms s → k < length ms → Chained (take (k + 1) ms) (after_cycles (get_or ms k d) n)
 chained_cut n k ms s d c live = record { between = between; onward = onward }
   where
-    size : length (take (k + 1) ms) ≡ k + 1
-    size = length-take-le (k + 1) ms (omega (arith, live))
-
     same : (i : ℕ) (e : State) → i < k + 1 → get_or (take (k + 1) ms) i e ≡ get_or ms i e
     same i e h = get_or-take (k + 1) ms i e h
 
-    default : (i : ℕ) (e : State) → i < length ms → get_or ms i e ≡ get_or ms i d
-    default i e h = get_or_default ms i e d h
-
-    between : (i j : ℕ) (e : State) → i < j → j < length (take (k + 1) ms) → LeadsTo (get_or (take (k + 1) ms) i e) (get_or (take (k + 1) ms) j e)
+    between : AllPairs LeadsTo (take (k + 1) ms)
     between i j e before h =
+        let size = length-take-le (k + 1) ms (omega (arith, live)) in
         let within : j < k + 1 = omega (arith, h, size) in
         subst (LeadsTo (get_or (take (k + 1) ms) i e)) (sym (same j e within)) (subst (λ x. LeadsTo x (get_or ms j e)) (sym (same i e (omega (arith, before, within)))) (c.between i j e before (omega (arith, within, live))))
 
-    to : (i : ℕ) (b : Bool) → (i == k) ≡ b → i < k + 1 → LeadsTo (get_or ms i d) (get_or ms k d)
-    to i true e h = let at : i ≡ k = grind (arith, nat_tests) in subst (λ j. LeadsTo (get_or ms j d) (get_or ms k d)) (sym at) (leads_self (get_or ms k d))
-    to i false e h = let before : i < k = grind (arith, nat_tests) in c.between i k d before live
+    leads : All (λ m. LeadsTo m (get_or ms k d)) (take k ms)
+    leads = All-from_get_or (λ m. LeadsTo m (get_or ms k d)) (take k ms) d
+        (λ i h. let size = length-take-le k ms (omega (arith, live)) in
+        let before : i < k = omega (arith, h, size) in
+        subst (λ m. LeadsTo m (get_or ms k d)) (sym (get_or-take k ms i d before)) (c.between i k d before live))
 
-    onward : (i : ℕ) (e : State) → i < length (take (k + 1) ms) → LeadsTo (get_or (take (k + 1) ms) i e) (after_cycles (get_or ms k d) n)
-    onward i e h =
-        let within : i < k + 1 = omega (arith, h, size) in
-        subst (λ x. LeadsTo x (after_cycles (get_or ms k d) n)) (sym (same i e within ∙ default i e (omega (arith, within, live)))) (leads_on n (get_or ms i d) (get_or ms k d) (to i (i == k) refl within))
+    onward : All (λ m. LeadsTo m (after_cycles (get_or ms k d) n)) (take (k + 1) ms)
+    onward = All-weaker (λ m. LeadsTo m (get_or ms k d)) (λ m. LeadsTo m (after_cycles (get_or ms k d) n)) (λ m. leads_on n m (get_or ms k d)) (take (k + 1) ms)
+        (All-more (λ m. LeadsTo m (get_or ms k d)) ms k d live leads (leads_self (get_or ms k d)))
