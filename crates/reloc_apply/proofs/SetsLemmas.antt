@@ -49,12 +49,6 @@ kept_by : (j : Bool) (bytes : List ℕ) (offset : ℕ) →
 kept_by false bytes offset = inl refl
 kept_by true bytes offset = inr (refl, (little_number 2 (drop offset bytes) / 1024, refl))
 
-some_limit : (f : Field) → 1 ≤ limit_of f
-some_limit field.Byte = omega arith
-some_limit field.Half = omega arith
-some_limit field.Word = omega arith
-some_limit field.Jump = omega arith
-
 below : (v : ℤ) (f : Field) → modulo v (limit_of f) < limit_of f
 below (ℤ.pos n) field.Byte = omega arith
 below (ℤ.pos n) field.Half = omega arith
