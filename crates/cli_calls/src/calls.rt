@@ -10,7 +10,7 @@ use cli_files::{NO_MEMORY, Refused, Status, USAGE, put_refusal};
 use sm_io::{Failed, Files, Sink};
 use std::alloc::{AllocError, Global};
 
-/// Ends the call of the program of this name: by the answer of the command that its words were read as, if they are one.
+/// Ends the call of the program of this name: by the answer of the command that its words are, if they are one.
 pub fn end_call<C: Answering + Drop, F: Files, O: Sink, E: Sink>(
     alloc: Global,
     program: &[u8],

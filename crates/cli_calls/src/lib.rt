@@ -1,4 +1,5 @@
-//! What the programs have in common above their files: the words of a call and their values, what a command is, and how a call ends.
+//! What the programs have in common above their files: the words of a call and their values, what a command is, and how
+//! a call ends.
 #![tactic(auto)]
 
 mod answering;

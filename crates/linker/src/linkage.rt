@@ -77,8 +77,8 @@ fn tell_linkage<'a>(
     ensures items { IfOk result (λ w. w.items.items ≡ resolved.entry.items) }
     ensures addresses { IfOk result (λ w. w.addresses ≡ placement.addresses) }
     ensures ends { IfOk result (λ w. w.ends ≡ placement.ends) }
-    ensures numbers { IfOk result (λ w. listed_numbers w.numbers.items
-        ≡ map (numbers_in (linking_by objects.entry.now placement.addresses.items)) (numbered_objects objects.entry.now)) }
+    ensures numbers { IfOk result (λ w. listed_numbers w.numbers.items ≡ map (numbers_in (linking_by
+        objects.entry.now placement.addresses.items)) (numbered_objects objects.entry.now)) }
     ensures commons { IfOk result (λ w. borrowed w.commons.items ≡ common_names objects.entry.now) }
 {
     let commons = resolved.commons(alloc)?;
@@ -118,8 +118,8 @@ fn linkage_by<'a>(
         objects.entry.now) }
     ensures small { IfOk result (λ w. (r : ℕ) → slice_index w.ends.items r ≤ FIRST_VECTOR) }
     ensures regions { IfOk result (λ w. length w.ends.items ≡ 2 + 2 * length layout.entry.now.modules.items) }
-    ensures numbers { IfOk result (λ w. listed_numbers w.numbers.items
-        ≡ map (numbers_in (linking_of (layout_of layout.entry.now) objects.entry.now)) (numbered_objects objects.entry.now)) }
+    ensures numbers { IfOk result (λ w. listed_numbers w.numbers.items ≡ map (numbers_in (linking_of (layout_of
+        layout.entry.now) objects.entry.now)) (numbered_objects objects.entry.now)) }
     ensures commons { IfOk result (λ w. borrowed w.commons.items ≡ common_names objects.entry.now) }
     ensures sound { OnOk result (fill_fault (region_end (layout_of layout.entry.now) objects.entry.now) (linking_of
         (layout_of layout.entry.now) objects.entry.now) (layout_of layout.entry.now) objects.entry.now ≡ None) }
@@ -159,8 +159,8 @@ pub fn linkage_of<'a>(
         objects.entry.now) }
     ensures small { IfOk result (λ w. (r : ℕ) → slice_index w.ends.items r ≤ FIRST_VECTOR) }
     ensures regions { IfOk result (λ w. length w.ends.items ≡ 2 + 2 * length layout.entry.now.modules.items) }
-    ensures numbers { IfOk result (λ w. listed_numbers w.numbers.items
-        ≡ map (numbers_in (linking_of (layout_of layout.entry.now) objects.entry.now)) (numbered_objects objects.entry.now)) }
+    ensures numbers { IfOk result (λ w. listed_numbers w.numbers.items ≡ map (numbers_in (linking_of (layout_of
+        layout.entry.now) objects.entry.now)) (numbered_objects objects.entry.now)) }
     ensures commons { IfOk result (λ w. borrowed w.commons.items ≡ common_names objects.entry.now) }
     ensures sound { OnOk result (link_fault_of (layout_of layout.entry.now) objects.entry.now ≡ None) }
     ensures refusal { IfErr result (IsLinkFaultOf (link_fault_of (layout_of layout.entry.now) objects.entry.now)) }

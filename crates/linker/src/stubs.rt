@@ -183,7 +183,8 @@ fn put_vector<'a>(
     requires low { (k : ℕ) → slice_index addresses.now k ≤ 65536 }
     requires full { length memory.old ≡ 65536 }
     requires vector { vector.now.vector < 16 }
-    ensures { memory.new ≡ put_vector (linking_by resolved.now.objects addresses.now) memory.old (vector_of vector.entry.now) }
+    ensures { memory.new ≡ put_vector (linking_by resolved.now.objects addresses.now) memory.old (vector_of
+        vector.entry.now) }
 {
     let word = word_named(resolved, addresses, vector.name.as_bytes());
     let bytes = [(word % 256) as u8, (word / 256) as u8];
