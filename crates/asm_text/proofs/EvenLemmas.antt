@@ -12,7 +12,6 @@ use Rattle.asm_text.specs.declared.unit.SectionKind.{SectionKind}
 use Rattle.asm_text.specs.declared.statement.Field.TheVariants.{Name}
 use Rattle.asm_text.specs.declared.statement.Statement.{Statement}
 use Rattle.asm_text.specs.declared.statement.Statement.TheVariants.{Section, Label, Global, Word, Space, Jump, Code}
-use Rattle.asm_text.specs.Encoding.{is_coded}
 use Rattle.asm_text.specs.Lines.{statement_of}
 use Rattle.asm_text.specs.Names.{Tables, no_tables, tables_after, numbered}
 use Rattle.asm_text.specs.Placing.{Placed, nowhere, has_section, placed_section, spot_of, with_label, with_bytes, within, in_section, last_head, placed, placed_from}
@@ -39,16 +38,6 @@ even_statement t (Space size) h = h.1
 even_statement t (Code insn a b) h = omega arith
 even_statement t _ h = refl
 
--- an instruction is one that a line may write
-abbrev pub IsSound : Statement ℕ → Type 0
-IsSound (Code insn first second) = is_coded insn ≡ true
-IsSound _ = Unit {0}
-
-sound_statement : (t : Tables) (s : Statement (List ℕ)) → IsWritten s → IsSound (numbered t s)
-sound_statement t (Word (Name name)) h = tt
-sound_statement t (Code insn a b) h = h.2
-sound_statement t _ h = tt
-
 -- what each line's statement keeps, all statements of a source do
 all_from : (P : Statement ℕ → Type 0) → ((t : Tables) (s : Statement (List ℕ)) → IsWritten s → P (numbered t s)) → (n : ℕ) (t : Tables) (statements : List (Statement ℕ)) (lines : List (List ℕ)) (tail : List ℕ) → All P statements
     → All P (source_from n t statements lines tail).statements
@@ -64,10 +53,6 @@ all_from P each n t statements (line ∷ lines) tail are = by (λ u ss are'. all
 pub source_even : (text : List ℕ) → AreEven (source_read text).statements
 unfolding source_read
 source_even text = all_from IsEven even_statement 1 no_tables [] (ended_lines text) (unended text) (λ k d h. absurd (omega (arith, h)))
-
-pub source_sound : (text : List ℕ) → All IsSound (source_read text).statements
-unfolding source_read
-source_sound text = all_from IsSound sound_statement 1 no_tables [] (ended_lines text) (unended text) (λ k d h. absurd (omega (arith, h)))
 
 -- ---- places
 

@@ -8,7 +8,7 @@ use Rattle.std.proofs.lemmas.List.Elements.{All-push, All-set}
 use Rattle.std.proofs.lemmas.Option.{slice_get_within, get_or_from_slice_get, slice_get-get_or}
 use Rattle.insn_decode.specs.declared.insn.Condition.{Condition}
 use Rattle.insn_decode.specs.declared.insn.Insn.{Insn}
-use Rattle.insn_decode.specs.declared.insn.Insn.TheVariants.{Two, One}
+use Rattle.insn_decode.specs.declared.insn.Insn.TheVariants.{Two, One, Jump as JumpInsn}
 use Rattle.insn_decode.specs.declared.insn.Operand.{Operand}
 use Rattle.insn_decode.specs.declared.insn.Operand.TheVariants.{Reg}
 use Rattle.insn_decode.specs.Code.{words_of as words_in, length_of}
@@ -16,18 +16,19 @@ use Rattle.asm_text.specs.declared.TheConstants.{MAX_SECTIONS, MAX_LABELS, MAX_S
 use Rattle.asm_text.specs.declared.placing.Head.{Head}
 use Rattle.asm_text.specs.declared.placing.Spot.{Spot}
 use Rattle.asm_text.specs.declared.unit.AsmFault.{AsmFault}
-use Rattle.asm_text.specs.declared.unit.AsmFault.TheVariants.{Place, Twice, TooMany, Large, NoLabel, Far}
+use Rattle.asm_text.specs.declared.unit.AsmFault.TheVariants.{Line, Place, Twice, TooMany, Large, NoLabel, Far}
 use Rattle.asm_text.specs.declared.unit.SectionKind.{SectionKind}
 use Rattle.asm_text.specs.declared.unit.SectionKind.TheVariants.{Code as CodeKind, Data as DataKind, Bss as BssKind}
 use Rattle.asm_text.specs.declared.statement.Statement.{Statement}
 use Rattle.asm_text.specs.declared.statement.Statement.TheVariants.{Section, Label, Global, Word, Space, Jump, Code}
-use Rattle.asm_text.specs.Emission.{Meanings, Emitted, statement_bytes, grown, with_statement, in_last, opened, emitted, field_number, jump_bytes, jump_over, reach, is_near}
+use Rattle.asm_text.specs.Emission.{Meanings, Emitted, statement_bytes, grown, with_statement, in_last, opened, emitted, field_number, jump_bytes, jump_over, reach}
 use Rattle.asm_text.specs.internal.Emitted.{newest_section}
 use Rattle.sm_words.specs.Bytes.{word_bytes}
-use Rattle.asm_text.specs.Encoding.{extension, code_bytes, jump_word, encoded_first}
+use Rattle.asm_text.specs.Encoding.{extension, extensions, first_word, encoded_words, code_bytes}
 use Rattle.asm_text.specs.Parts.{SectionValue, kept_size}
 use Rattle.asm_text.specs.Placing.{Placed, placed_section, with_bytes, with_label, within, in_section, last_head, placed, has_section, spot_of}
 use Rattle.asm_text.specs.Statements.{statement_size, kind_takes}
+use Rattle.asm_text.proofs.WordLemmas.{option_map_some}
 
 -- what a section and its head share
 pub record Shape : Type 0 where
@@ -99,37 +100,45 @@ flat_append (x ∷ xs) ys = let more = flat_append xs ys in
     let front : length (word_bytes x) ≡ 2 = refl in
     omega (arith, length-append (word_bytes x) (flat_map word_bytes (xs ++ ys)), length-append (word_bytes x) (flat_map word_bytes xs))
 
-code_size : (insn : Insn) → length (code_bytes insn) ≡ 2 * length_of insn
-code_size (Two op w s d) =
+words_size : (word : ℕ) (insn : Insn) → length (flat_map word_bytes (word ∷ extensions insn)) ≡ 2 * length_of insn
+words_size word (Two op w s d) =
     let one = extension_size s in
     let two = extension_size d in
     let both = flat_append (extension s) (extension d) in
-    omega (arith, length-append (word_bytes (encoded_first (Two op w s d))) (flat_map word_bytes (extension s ++ extension d)))
-code_size (One op w a) =
+    omega (arith, length-append (word_bytes word) (flat_map word_bytes (extension s ++ extension d)))
+words_size word (One op w a) =
     let one = extension_size a in
-    omega (arith, length-append (word_bytes (encoded_first (One op w a))) (flat_map word_bytes (extension a)))
-code_size _ = refl
+    omega (arith, length-append (word_bytes word) (flat_map word_bytes (extension a)))
+words_size word _ = refl
 
-two_bytes : (n : ℕ) (cn : Condition) (offset : ℤ) (bytes : List ℕ) → jump_over n cn offset ≡ Ok bytes → length bytes ≡ 2
-two_bytes n cn offset bytes e = by (is_near offset) e
-  where
-    by : (c : Bool) → cond c (Ok (word_bytes (jump_word cn offset))) (Err (Far n offset)) ≡ Ok bytes → length bytes ≡ 2
-    by true e = let same : word_bytes (jump_word cn offset) ≡ bytes = cc in ap length (sym same)
-    by false e = absurd cc
+code_size : (insn : Insn) (bytes : List ℕ) → code_bytes insn ≡ Some bytes → length bytes ≡ 2 * length_of insn
+code_size insn bytes e = option_map_some (flat_map word_bytes) (encoded_words insn) bytes e (λ words is same.
+    option_map_some (λ w. w ∷ extensions insn) (first_word insn) words is (λ word first are.
+    ap length (sym same) ∙ (ap (λ ws. length (flat_map word_bytes ws)) (sym are) ∙ words_size word insn)))
+
+pub ok_is : {A : Type 0} (a b : A) → ◌≡◌ {A = Result A AsmFault} (Ok a) (Ok b) → a ≡ b
+ok_is a b k = cc
+
+pub ok_or_is : {A : Type 0} (o : Option A) (fault : AsmFault) (a : A) → ok_or o fault ≡ Ok a → o ≡ Some a
+ok_or_is (Some b) fault a k = ap Some (ok_is b a k)
+ok_or_is None fault a k = absurd cc
 
 pub jump_size : (n section here : ℕ) (cn : Condition) (spot : Option Spot) (bytes : List ℕ) → jump_bytes n section here cn spot ≡ Ok bytes → length bytes ≡ 2
 jump_size n section here cn None bytes e = absurd cc
 jump_size n section here cn (Some spot) bytes e = by (nat_eq spot.section section) e
   where
-    by : (c : Bool) → cond c (jump_over n cn (reach here spot.offset)) (Err (NoLabel n)) ≡ Ok bytes → length bytes ≡ 2
-    by true e = two_bytes n cn (reach here spot.offset) bytes e
+    offset : ℤ
+    offset = reach here spot.offset
+
+    by : (c : Bool) → cond c (jump_over n cn offset) (Err (NoLabel n)) ≡ Ok bytes → length bytes ≡ 2
+    by true e = code_size (JumpInsn cn offset) bytes (ok_or_is (code_bytes (JumpInsn cn offset)) (Far n offset) bytes e)
     by false e = absurd cc
 
 pub bytes_size : (m : Meanings) (n section here : ℕ) (kind : SectionKind) (s : Statement ℕ) (bytes : List ℕ) → kind_takes kind s ≡ true → statement_bytes m n section here s ≡ Ok bytes → length bytes ≡ kept_size kind (statement_size s)
 bytes_size m n section here CodeKind (Word field) bytes t e = let same : word_bytes (field_number field) ≡ bytes = cc in ap length (sym same)
 bytes_size m n section here CodeKind (Space size) bytes t e = absurd cc
 bytes_size m n section here CodeKind (Jump c target) bytes t e = jump_size n section here c (spot_of m.spots target) bytes e
-bytes_size m n section here CodeKind (Code insn a b) bytes t e = let same : code_bytes insn ≡ bytes = cc in ap length (sym same) ∙ code_size insn
+bytes_size m n section here CodeKind (Code insn a b) bytes t e = code_size insn bytes (ok_or_is (code_bytes insn) (Line n) bytes e)
 bytes_size m n section here DataKind (Word field) bytes t e = let same : word_bytes (field_number field) ≡ bytes = cc in ap length (sym same)
 bytes_size m n section here DataKind (Space size) bytes t e = absurd cc
 bytes_size m n section here DataKind (Jump c target) bytes t e = absurd cc
@@ -144,9 +153,6 @@ kept_more CodeKind a b = refl
 kept_more _ a b = refl
 
 -- ---- bytes more
-
-pub ok_is : {A : Type 0} (a b : A) → ◌≡◌ {A = Result A AsmFault} (Ok a) (Ok b) → a ≡ b
-ok_is a b k = cc
 
 pub record IsGrown (p q : Placed) (h : Head) (size : ℕ) : Type 0 where
   pub heads : q.heads ≡ set p.heads (length p.heads - 1) (record { name = h.name; kind = h.kind; size = h.size + size })

@@ -1,7 +1,8 @@
 -- The words of an instruction mean it.
-use Rattle.std.proofs.Common.{ℕ, ◌≡◌, ◌+◌, ◌*◌, ◌/◌, ◌%◌, ◌<◌, Bool, true, false, not, cond, ◌&&◌, ◌||◌, nat_lt, nat_eq, List, [], ◌∷◌, ◌++◌, length, take, drop, refl, ap, sym, subst, ◌∙◌, arith, get_or}
+use Rattle.std.proofs.Common.{ℕ, ◌≡◌, ◌+◌, ◌*◌, ◌/◌, ◌%◌, ◌<◌, Bool, true, false, not, cond, ◌&&◌, nat_lt, nat_eq, List, [], ◌∷◌, ◌++◌, length, take, drop, Some, None, refl, ap, sym, subst, ◌∙◌, arith, lit<, get_or}
 use Rattle.std.proofs.lemmas.Bool.Decides.{nat_tests}
 use Rattle.std.proofs.lemmas.Bool.{and_parts}
+use Rattle.std.proofs.lemmas.Option.{same_Some, cond_some, option_and_then_some}
 use Rattle.sm_words.specs.declared.width.Width.{Width}
 use Rattle.sm_words.specs.declared.width.Width.TheVariants.{Byte, Word as WordWidth}
 use Rattle.insn_decode.specs.declared.insn.TwoOp.{TwoOp}
@@ -11,9 +12,13 @@ use Rattle.insn_decode.specs.declared.insn.Operand.{Operand}
 use Rattle.insn_decode.specs.declared.insn.Operand.TheVariants.{Reg, Const, Imm, Indexed, Symbolic, Absolute, Indirect, Increment}
 use Rattle.insn_decode.specs.declared.insn.Insn.{Insn}
 use Rattle.insn_decode.specs.declared.insn.Insn.TheVariants.{Two, One, Jump, Reti, Unit as UnitOp}
-use Rattle.insn_decode.specs.Code.{words_of as words_in, width_of, one_fits, is_constant}
+use Rattle.insn_decode.specs.Code.{words_of as words_in, length_of, width_of, one_fits}
 use Rattle.insn_decode.specs.Means.{two_code, one_code, Means, IsPlain, Source, register, symbolic, absolute, indexed, indirect, increment, immediate, four, eight, nought, one, two, all_ones, Destination, to_register, to_symbolic, to_absolute, to_indexed, format_one, format_two, return, unit}
-use Rattle.asm_text.specs.Encoding.{source_mode, operand_register, byte_flag, encoded_first, extension, IsMeant, is_plain, is_source, is_dest, is_coded}
+use Rattle.asm_text.specs.declared.encoding.OperandFields.{OperandFields}
+use Rattle.asm_text.specs.Encoding.{plain_fields, constant_fields, source_fields, dest_fields, byte_flag, first_word, extension, extensions}
+use Rattle.asm_text.specs.Laws.{WordsAreMeant}
+use Rattle.asm_text.proofs.JumpLemmas.{jump_means}
+use Rattle.asm_text.proofs.WordLemmas.{option_map_some}
 
 -- ---- the fields of a first word
 
@@ -25,8 +30,8 @@ pub record HasFields (w op s a b m d : ℕ) : Type 0 where
   pub mode : (w / 16) % 4 ≡ m
   pub register_is : w % 16 ≡ d
 
-fields : (op s a b m d : ℕ) → s < 16 → a < 2 → b < 2 → m < 4 → d < 16 → HasFields (op * 4096 + s * 256 + a * 128 + b * 64 + m * 16 + d) op s a b m d
-fields op s a b m d hs ha hb hm hd = record {
+has_fields : (op s a b m d : ℕ) → s < 16 → a < 2 → b < 2 → m < 4 → d < 16 → HasFields (op * 4096 + s * 256 + a * 128 + b * 64 + m * 16 + d) op s a b m d
+has_fields op s a b m d hs ha hb hm hd = record {
   op_is = omega arith;
   source = omega arith;
   dest_mode_is = omega arith;
@@ -42,8 +47,8 @@ pub record HasFewFields (w op b m d : ℕ) : Type 0 where
   pub mode : (w / 16) % 4 ≡ m
   pub register_is : w % 16 ≡ d
 
-few_fields : (op b m d : ℕ) → op < 8 → b < 2 → m < 4 → d < 16 → HasFewFields (4096 + op * 128 + b * 64 + m * 16 + d) op b m d
-few_fields op b m d ho hb hm hd = record {
+has_few_fields : (op b m d : ℕ) → op < 8 → b < 2 → m < 4 → d < 16 → HasFewFields (4096 + op * 128 + b * 64 + m * 16 + d) op b m d
+has_few_fields op b m d ho hb hm hd = record {
   form = omega arith;
   op_is = omega arith;
   byte = omega arith;
@@ -57,27 +62,25 @@ pub record IsRegister (r : ℕ) : Type 0 where
   pub low : r < 16
   pub plain : IsPlain r
 
-register_plain : (r : ℕ) → is_plain r ≡ true → IsRegister r
-register_plain r e =
-    let three = and_parts (nat_lt r 16 && not (nat_eq r 0) && not (nat_eq r 2)) (not (nat_eq r 3)) e in
+unlike : (r k : ℕ) → r ≡ k → not (nat_eq r k) ≡ true → ⊥
+unlike r k s n = grind (arith, nat_tests)
+
+abbrev at : ℕ → ℕ → OperandFields
+at mode r = record { mode = mode; register = r }
+
+is_register : (mode r : ℕ) (f : OperandFields) → plain_fields mode r ≡ Some f → IsRegister r × (at mode r ≡ f)
+is_register mode r f e =
+    let tests = cond_some (nat_lt r 16 && not (nat_eq r 0) && not (nat_eq r 2) && not (nat_eq r 3)) (at mode r) f e in
+    let three = and_parts (nat_lt r 16 && not (nat_eq r 0) && not (nat_eq r 2)) (not (nat_eq r 3)) tests.0 in
     let two' = and_parts (nat_lt r 16 && not (nat_eq r 0)) (not (nat_eq r 2)) three.0 in
     let one' = and_parts (nat_lt r 16) (not (nat_eq r 0)) two'.0 in
-    let low = one'.0 in
-    let n0 = one'.1 in
-    let n2 = two'.1 in
-    let n3 = three.1 in
-    record { low = grind (arith, nat_tests); plain = record { not_pc = λ s. by r 0 s n0; not_sr = λ s. by r 2 s n2; not_constants = λ s. by r 3 s n3 } }
-  where
-    by : (r k : ℕ) → r ≡ k → not (nat_eq r k) ≡ true → ⊥
-    by r k s n = grind (arith, nat_tests)
-
-pub mode_low : (o : Operand) → source_mode o < 4
-mode_low (Const c) = grind (arith, nat_tests)
-mode_low _ = omega arith
-
-pub register_low : (o : Operand) → operand_register o < 16
-register_low (Const c) = grind (arith, nat_tests)
-register_low _ = omega arith
+    let low = one'.0 in (
+      record {
+        low = grind (arith, nat_tests);
+        plain = record { not_pc = λ s. unlike r 0 s one'.1; not_sr = λ s. unlike r 2 s two'.1; not_constants = λ s. unlike r 3 s three.1 };
+      },
+      tests.1,
+    )
 
 words_low : (o : Operand) → words_in o < 2
 words_low (Reg r) = omega arith
@@ -95,49 +98,58 @@ flag_width WordWidth = refl
 abbrev ext_of : Operand → ℕ → ℕ
 ext_of o other = get_or (extension o ++ other ∷ []) 0 0
 
-constant_source : (c x : ℕ) → is_constant c ≡ true → Source (source_mode (Const c)) (operand_register (Const c)) x (Const c)
-constant_source c x e = by (nat_eq c 0) (nat_eq c 1) (nat_eq c 2) (nat_eq c 4) (nat_eq c 8) (nat_eq c 65535) refl refl refl refl refl refl e
+-- the fields are small, and mean the operand
+record IsSource (o : Operand) (f : OperandFields) : Type 0 where
+  pub mode : f.mode < 4
+  pub number : f.register < 16
+  pub means : (x : ℕ) → Source f.mode f.register (ext_of o x) o
+
+constant_is : (c : ℕ) (f : OperandFields) → constant_fields c ≡ Some f → IsSource (Const c) f
+constant_is c f e = by (nat_eq c 0) (nat_eq c 1) (nat_eq c 2) (nat_eq c 4) (nat_eq c 8) (nat_eq c 65535) refl refl refl refl refl refl e
   where
-    at : (k : ℕ) → nat_eq c k ≡ true → k ≡ c
-    at k is = grind (arith, nat_tests)
+    along : (k m r : ℕ) → nat_eq c k ≡ true → m < 4 → r < 16 → ((x : ℕ) → Source m r x (Const k)) → Some (at m r) ≡ Some f → IsSource (Const c) f
+    along k m r is mode number means same =
+        subst (λ j. IsSource (Const j) f) (let equal : k ≡ c = grind (arith, nat_tests) in equal)
+        (subst (IsSource (Const k)) (same_Some (at m r) f same) (record { mode = mode; number = number; means = means }))
 
-    along : (k : ℕ) → nat_eq c k ≡ true → Source (source_mode (Const k)) (operand_register (Const k)) x (Const k) → Source (source_mode (Const c)) (operand_register (Const c)) x (Const c)
-    along k is s = subst (λ j. Source (source_mode (Const j)) (operand_register (Const j)) x (Const j)) (at k is) s
-
-    by : (a b d f g h : Bool) → nat_eq c 0 ≡ a → nat_eq c 1 ≡ b → nat_eq c 2 ≡ d → nat_eq c 4 ≡ f → nat_eq c 8 ≡ g → nat_eq c 65535 ≡ h → (a || b || d || f || g || h) ≡ true
-        → Source (source_mode (Const c)) (operand_register (Const c)) x (Const c)
-    by true b d f g h i0 i1 i2 i4 i8 i9 k = along 0 i0 (nought x)
-    by false true d f g h i0 i1 i2 i4 i8 i9 k = along 1 i1 (one x)
-    by false false true f g h i0 i1 i2 i4 i8 i9 k = along 2 i2 (two x)
-    by false false false true g h i0 i1 i2 i4 i8 i9 k = along 4 i4 (four x)
-    by false false false false true h i0 i1 i2 i4 i8 i9 k = along 8 i8 (eight x)
-    by false false false false false true i0 i1 i2 i4 i8 i9 k = along 65535 i9 (all_ones x)
+    by : (a b d g h i : Bool) → nat_eq c 0 ≡ a → nat_eq c 1 ≡ b → nat_eq c 2 ≡ d → nat_eq c 4 ≡ g → nat_eq c 8 ≡ h → nat_eq c 65535 ≡ i
+        → cond a (Some (at 0 3)) (cond b (Some (at 1 3)) (cond d (Some (at 2 3)) (cond g (Some (at 2 2)) (cond h (Some (at 3 2)) (cond i (Some (at 3 3)) None))))) ≡ Some f → IsSource (Const c) f
+    by true b d g h i i0 i1 i2 i4 i8 i9 k = along 0 0 3 i0 (lit< tt) (lit< tt) nought k
+    by false true d g h i i0 i1 i2 i4 i8 i9 k = along 1 1 3 i1 (lit< tt) (lit< tt) one k
+    by false false true g h i i0 i1 i2 i4 i8 i9 k = along 2 2 3 i2 (lit< tt) (lit< tt) two k
+    by false false false true h i i0 i1 i2 i4 i8 i9 k = along 4 2 2 i4 (lit< tt) (lit< tt) four k
+    by false false false false true i i0 i1 i2 i4 i8 i9 k = along 8 3 2 i8 (lit< tt) (lit< tt) eight k
+    by false false false false false true i0 i1 i2 i4 i8 i9 k = along 65535 3 3 i9 (lit< tt) (lit< tt) all_ones k
     by false false false false false false i0 i1 i2 i4 i8 i9 k = absurd cc
 
-pub source_is : (o : Operand) (other : ℕ) → is_source o ≡ true → Source (source_mode o) (operand_register o) (ext_of o other) o
-source_is (Reg r) other e =
-    let two' = and_parts (nat_lt r 16) (not (nat_eq r 3)) e in
-    let low = two'.0 in
-    let n3 = two'.1 in
-    let small : r % 16 ≡ r = let l : r < 16 = grind (arith, nat_tests) in omega arith in
-    subst (λ k. Source 0 k other (Reg r)) (sym small) (register r other (λ s. by r s n3))
-  where
-    by : (r : ℕ) → r ≡ 3 → not (nat_eq r 3) ≡ true → ⊥
-    by r s n = grind (arith, nat_tests)
-source_is (Const c) other e = constant_source c other e
-source_is (Imm x) other e = immediate x
-source_is (Indexed r x) other e = let p = register_plain r e in let l = p.low in let small : r % 16 ≡ r = omega arith in subst (λ k. Source 1 k x (Indexed r x)) (sym small) (indexed r x p.plain)
-source_is (Symbolic x) other e = symbolic x
-source_is (Absolute x) other e = absolute x
-source_is (Indirect r) other e = let p = register_plain r e in let l = p.low in let small : r % 16 ≡ r = omega arith in subst (λ k. Source 2 k other (Indirect r)) (sym small) (indirect r other p.plain)
-source_is (Increment r) other e = let p = register_plain r e in let l = p.low in let small : r % 16 ≡ r = omega arith in subst (λ k. Source 3 k other (Increment r)) (sym small) (increment r other p.plain)
+source_is : (o : Operand) (f : OperandFields) → source_fields o ≡ Some f → IsSource o f
+source_is (Reg r) f e =
+    let tests = cond_some (nat_lt r 16 && not (nat_eq r 3)) (at 0 r) f e in
+    let both = and_parts (nat_lt r 16) (not (nat_eq r 3)) tests.0 in
+    let low = both.0 in
+    subst (IsSource (Reg r)) tests.1 (record { mode = lit< tt; number = grind (arith, nat_tests); means = λ x. register r x (λ s. unlike r 3 s both.1) })
+source_is (Const c) f e = constant_is c f e
+source_is (Imm x) f e = subst (IsSource (Imm x)) (same_Some (at 3 0) f e) (record { mode = lit< tt; number = lit< tt; means = λ other. immediate x })
+source_is (Indexed r x) f e = let p = is_register 1 r f e in subst (IsSource (Indexed r x)) p.1 (record { mode = lit< tt; number = p.0.low; means = λ other. indexed r x p.0.plain })
+source_is (Symbolic x) f e = subst (IsSource (Symbolic x)) (same_Some (at 1 0) f e) (record { mode = lit< tt; number = lit< tt; means = λ other. symbolic x })
+source_is (Absolute x) f e = subst (IsSource (Absolute x)) (same_Some (at 1 2) f e) (record { mode = lit< tt; number = lit< tt; means = λ other. absolute x })
+source_is (Indirect r) f e = let p = is_register 2 r f e in subst (IsSource (Indirect r)) p.1 (record { mode = lit< tt; number = p.0.low; means = λ x. indirect r x p.0.plain })
+source_is (Increment r) f e = let p = is_register 3 r f e in subst (IsSource (Increment r)) p.1 (record { mode = lit< tt; number = p.0.low; means = λ x. increment r x p.0.plain })
 
-pub dest_is : (o : Operand) (other : ℕ) → is_dest o ≡ true → Destination (words_in o) (operand_register o) (ext_of o other) o
-dest_is (Reg r) other e = let low = e in let small : r % 16 ≡ r = let l : r < 16 = grind (arith, nat_tests) in omega arith in subst (λ k. Destination 0 k other (Reg r)) (sym small) (to_register r other)
-dest_is (Indexed r x) other e = let p = register_plain r e in let l = p.low in let small : r % 16 ≡ r = omega arith in subst (λ k. Destination 1 k x (Indexed r x)) (sym small) (to_indexed r x p.plain)
-dest_is (Symbolic x) other e = to_symbolic x
-dest_is (Absolute x) other e = to_absolute x
-dest_is _ other e = absurd cc
+record IsDest (o : Operand) (f : OperandFields) : Type 0 where
+  pub mode : f.mode < 2
+  pub number : f.register < 16
+  pub means : (x : ℕ) → Destination f.mode f.register (ext_of o x) o
+
+dest_is : (o : Operand) (f : OperandFields) → dest_fields o ≡ Some f → IsDest o f
+dest_is (Reg r) f e =
+    let test = cond_some (nat_lt r 16) (at 0 r) f e in
+    let low = test.0 in
+    subst (IsDest (Reg r)) test.1 (record { mode = lit< tt; number = grind (arith, nat_tests); means = to_register r })
+dest_is (Indexed r x) f e = let p = is_register 1 r f e in subst (IsDest (Indexed r x)) p.1 (record { mode = lit< tt; number = p.0.low; means = λ other. to_indexed r x p.0.plain })
+dest_is (Symbolic x) f e = subst (IsDest (Symbolic x)) (same_Some (at 1 0) f e) (record { mode = lit< tt; number = lit< tt; means = λ other. to_symbolic x })
+dest_is (Absolute x) f e = subst (IsDest (Absolute x)) (same_Some (at 1 2) f e) (record { mode = lit< tt; number = lit< tt; means = λ other. to_absolute x })
+dest_is _ f e = absurd cc
 
 one_code_low : (op : OneOp) → one_code op < 8
 one_code_low Rrc = omega arith
@@ -162,34 +174,43 @@ pair (Indirect r) d w1 w2 e = (refl, word_of d w1 (w2 ∷ []) e)
 pair (Increment r) d w1 w2 e = (refl, word_of d w1 (w2 ∷ []) e)
 pair _ d w1 w2 e = (ap (λ (l : List ℕ). get_or l 0 0) e, word_of d w2 [] (ap (drop 1) e))
 
-two_means : (op : TwoOp) (w : Width) (s d : Operand) → is_source s ≡ true → is_dest d ≡ true → IsMeant (Two op w s d)
-unfolding encoded_first
-two_means op w s d hs hd w1 w2 e =
-    let w0 = two_code op * 4096 + operand_register s * 256 + words_in d * 128 + byte_flag w * 64 + source_mode s * 16 + operand_register d in
-    let f = fields (two_code op) (operand_register s) (words_in d) (byte_flag w) (source_mode s) (operand_register d) (register_low s) (words_low d) (flag_low w) (mode_low s) (register_low d) in
+two_means : (op : TwoOp) (w : Width) (s d : Operand) (f g : OperandFields) (w1 w2 : ℕ) → IsSource s f → IsDest d g → extension s ++ extension d ≡ take (length (extension s ++ extension d)) (w1 ∷ w2 ∷ [])
+    → Means (two_code op * 4096 + f.register * 256 + g.mode * 128 + byte_flag w * 64 + f.mode * 16 + g.register) w1 w2 (Two op w s d) (1 + words_in s + words_in d)
+two_means op w s d f g w1 w2 hs hd e =
+    let w0 = two_code op * 4096 + f.register * 256 + g.mode * 128 + byte_flag w * 64 + f.mode * 16 + g.register in
+    let has = has_fields (two_code op) f.register g.mode (byte_flag w) f.mode g.register hs.number hd.mode (flag_low w) hs.mode hd.number in
     let p = pair s d w1 w2 e in
+    let next = cond (nat_eq (words_in s) 1) w2 w1 in
     let source : Source ((w0 / 16) % 4) ((w0 / 256) % 16) w1 s =
-    subst (λ m. Source m ((w0 / 256) % 16) w1 s) (sym f.mode) (subst (λ r. Source (source_mode s) r w1 s) (sym f.source) (subst (λ x. Source (source_mode s) (operand_register s) x s) p.0 (source_is s w1 hs))) in
-    let dest : Destination ((w0 / 128) % 2) (w0 % 16) (cond (nat_eq (words_in s) 1) w2 w1) d =
-    subst (λ m. Destination m (w0 % 16) (cond (nat_eq (words_in s) 1) w2 w1) d) (sym f.dest_mode_is) (subst (λ r. Destination (words_in d) r (cond (nat_eq (words_in s) 1) w2 w1) d) (sym f.register_is) (subst (λ x. Destination (words_in d) (operand_register d) x d) p.1 (dest_is d (cond (nat_eq (words_in s) 1) w2 w1) hd))) in
-    let width : width_of ((w0 / 64) % 2) ≡ w = ap width_of f.byte ∙ flag_width w in
-    subst (λ (v : Width). Means w0 w1 w2 (Two op v s d) (1 + words_in s + words_in d)) width (format_one op s d f.op_is source dest)
+    subst (λ m. Source m ((w0 / 256) % 16) w1 s) (sym has.mode) (subst (λ r. Source f.mode r w1 s) (sym has.source) (subst (λ x. Source f.mode f.register x s) p.0 (hs.means w1))) in
+    let dest : Destination ((w0 / 128) % 2) (w0 % 16) next d =
+    subst (λ m. Destination m (w0 % 16) next d) (sym has.dest_mode_is) (subst (λ r. Destination g.mode r next d) (sym has.register_is) (subst (λ x. Destination g.mode g.register x d) p.1 (hd.means next))) in
+    let width : width_of ((w0 / 64) % 2) ≡ w = ap width_of has.byte ∙ flag_width w in
+    subst (λ (v : Width). Means w0 w1 w2 (Two op v s d) (1 + words_in s + words_in d)) width (format_one op s d has.op_is source dest)
 
-one_means : (op : OneOp) (w : Width) (a : Operand) → is_source a ≡ true → one_fits op w a ≡ true → IsMeant (One op w a)
-unfolding encoded_first
-one_means op w a ha fits w1 w2 e =
-    let w0 = 4096 + one_code op * 128 + byte_flag w * 64 + source_mode a * 16 + operand_register a in
-    let f = few_fields (one_code op) (byte_flag w) (source_mode a) (operand_register a) (one_code_low op) (flag_low w) (mode_low a) (register_low a) in
+one_means : (op : OneOp) (w : Width) (a : Operand) (f : OperandFields) (w1 w2 : ℕ) → IsSource a f → one_fits op w a ≡ true → extension a ≡ take (length (extension a)) (w1 ∷ w2 ∷ [])
+    → Means (4096 + one_code op * 128 + byte_flag w * 64 + f.mode * 16 + f.register) w1 w2 (One op w a) (1 + words_in a)
+one_means op w a f w1 w2 ha fits e =
+    let w0 = 4096 + one_code op * 128 + byte_flag w * 64 + f.mode * 16 + f.register in
+    let has = has_few_fields (one_code op) (byte_flag w) f.mode f.register (one_code_low op) (flag_low w) ha.mode ha.number in
     let source : Source ((w0 / 16) % 4) (w0 % 16) w1 a =
-    subst (λ m. Source m (w0 % 16) w1 a) (sym f.mode) (subst (λ r. Source (source_mode a) r w1 a) (sym f.register_is) (subst (λ x. Source (source_mode a) (operand_register a) x a) (word_of a w1 (w2 ∷ []) e) (source_is a w1 ha))) in
-    let width : width_of ((w0 / 64) % 2) ≡ w = ap width_of f.byte ∙ flag_width w in
+    subst (λ m. Source m (w0 % 16) w1 a) (sym has.mode) (subst (λ r. Source f.mode r w1 a) (sym has.register_is) (subst (λ x. Source f.mode f.register x a) (word_of a w1 (w2 ∷ []) e) (ha.means w1))) in
+    let width : width_of ((w0 / 64) % 2) ≡ w = ap width_of has.byte ∙ flag_width w in
     subst (λ (v : Width). Means w0 w1 w2 (One op v a) (1 + words_in a)) width
-    (format_two op a f.form f.op_is source (subst (λ (v : Width). one_fits op v a ≡ true) (sym width) fits))
+    (format_two op a has.form has.op_is source (subst (λ (v : Width). one_fits op v a ≡ true) (sym width) fits))
 
-pub coded_means : (insn : Insn) → is_coded insn ≡ true → IsMeant insn
-unfolding encoded_first
-coded_means (Two op w s d) e = let b = and_parts (is_source s) (is_dest d) e in two_means op w s d b.0 b.1
-coded_means (One op w a) e = let b = and_parts (is_source a) (one_fits op w a) e in one_means op w a b.0 b.1
-coded_means (Jump c o) e = absurd cc
-coded_means Reti e = λ w1 w2 h. return refl
-coded_means (UnitOp name) e = λ w1 w2 h. unit name refl
+first_means : (insn : Insn) (w0 w1 w2 : ℕ) → first_word insn ≡ Some w0 → extensions insn ≡ take (length (extensions insn)) (w1 ∷ w2 ∷ []) → Means w0 w1 w2 insn (length_of insn)
+unfolding first_word
+first_means (Two op w s d) w0 w1 w2 e h = option_and_then_some _ (source_fields s) w0 e (λ f i k. option_and_then_some _ (dest_fields d) w0 k (λ g j l.
+    subst (λ v. Means v w1 w2 (Two op w s d) (1 + words_in s + words_in d)) (same_Some _ w0 l) (two_means op w s d f g w1 w2 (source_is s f i) (dest_is d g j) h)))
+first_means (One op w a) w0 w1 w2 e h = option_and_then_some _ (source_fields a) w0 e (λ f i k.
+    let fits = cond_some (one_fits op w a) _ w0 k in
+    subst (λ v. Means v w1 w2 (One op w a) (1 + words_in a)) fits.1 (one_means op w a f w1 w2 (source_is a f i) fits.0 h))
+first_means (Jump c o) w0 w1 w2 e h = jump_means c o w0 w1 w2 e
+first_means Reti w0 w1 w2 e h = return (sym (same_Some 0x1300 w0 e))
+first_means (UnitOp name) w0 w1 w2 e h = unit name (sym (same_Some _ w0 e))
+
+pub words_are_meant : WordsAreMeant
+words_are_meant insn words e w0 w1 w2 h = option_map_some (λ word. word ∷ extensions insn) (first_word insn) words e (λ word is same.
+    let whole : word ∷ extensions insn ≡ w0 ∷ take (length (extensions insn)) (w1 ∷ w2 ∷ []) = subst (λ ws. ws ≡ take (length ws) (w0 ∷ w1 ∷ w2 ∷ [])) (sym same) h in
+    first_means insn w0 w1 w2 (is ∙ ap (λ ws. Some (get_or ws 0 0)) whole) (ap (drop 1) whole))

@@ -1,7 +1,7 @@
 -- What the lines of an accepted source write, and where its jumps lead.
 use Rattle.std.proofs.Common.{ℕ, zero, suc, ◌≡◌, ◌≢◌, ◌+◌, ◌-◌, ◌%◌, ◌<◌, Bool, true, false, cond, is_some, List, [], ◌∷◌, ◌++◌, length, get_or, set, take, drop, Option, Some, None, Result, Ok, Err, nat_eq, refl, ap, sym, subst, ◌∙◌, append_assoc, arith, ◌⊎◌, inl, inr}
 use Rattle.std.specs.List.{All, Contains}
-use Rattle.std.specs.Prelude.{fold, option_map, slice_get}
+use Rattle.std.specs.Prelude.{fold, flat_map, option_map, slice_get, IsSomeAnd}
 use Rattle.std.proofs.lemmas.Bool.Decides.{nat_tests}
 use Rattle.std.proofs.lemmas.List.Elements.{Contains-append_left, Contains-push}
 use Rattle.std.proofs.lemmas.List.Quantifiers.{position-Some}
@@ -9,20 +9,21 @@ use Rattle.std.proofs.lemmas.List.{append-nil, length-set, get_or-set_same, get_
 use Rattle.std.proofs.lemmas.Option.{slice_get_within, get_or_from_slice_get, slice_get-get_or}
 use Rattle.insn_decode.specs.declared.insn.Condition.{Condition}
 use Rattle.insn_decode.specs.declared.insn.Insn.{Insn}
+use Rattle.insn_decode.specs.declared.insn.Insn.TheVariants.{Jump as JumpInsn}
 use Rattle.asm_text.specs.declared.placing.Head.{Head}
 use Rattle.asm_text.specs.declared.placing.Spot.{Spot}
 use Rattle.asm_text.specs.declared.statement.Field.{Field}
 use Rattle.asm_text.specs.declared.statement.Statement.TheVariants.{Section, Label, Global, Word, Space, Jump, Code}
 use Rattle.asm_text.specs.declared.statement.Statement.{Statement}
-use Rattle.asm_text.specs.declared.unit.AsmFault.TheVariants.{NoLabel, Far}
+use Rattle.asm_text.specs.declared.unit.AsmFault.TheVariants.{Line as LineFault, NoLabel, Far}
 use Rattle.asm_text.specs.declared.unit.AsmFault.{AsmFault}
 use Rattle.asm_text.specs.declared.unit.SectionKind.TheVariants.{Code as CodeKind, Data as DataKind, Bss as BssKind}
 use Rattle.asm_text.specs.declared.unit.SectionKind.{SectionKind}
 use Rattle.asm_text.specs.Assembly.{name_count, symbol_order, meanings, unit_for, with_emitted, with_stop, with_placed, assembled_source, assembled}
-use Rattle.asm_text.specs.Emission.{Meanings, Emitted, nothing, emitted, emitted_from, statement_bytes, field_number, with_statement, in_last, grown, reach, is_near, jump_over, jump_bytes}
+use Rattle.asm_text.specs.Emission.{Meanings, Emitted, nothing, emitted, emitted_from, statement_bytes, field_number, with_statement, in_last, grown, reach, jump_over, jump_bytes}
 use Rattle.asm_text.specs.internal.Emitted.{newest_section}
 use Rattle.sm_words.specs.Bytes.{word_bytes}
-use Rattle.asm_text.specs.Encoding.{code_bytes, jump_word, is_coded}
+use Rattle.asm_text.specs.Encoding.{first_word, encoded_words, code_bytes, IsMeant}
 use Rattle.asm_text.specs.Jumps.{LeadsToLabel, JumpsReachLabels, LabelsAreEven}
 use Rattle.asm_text.specs.internal.Kept.{IsSource}
 use Rattle.asm_text.specs.internal.Known.{IsKnown}
@@ -33,11 +34,12 @@ use Rattle.asm_text.specs.Source.{SourceRead, source_read}
 use Rattle.asm_text.specs.Statements.{statement_size, kind_takes}
 use Rattle.asm_text.specs.Symbols.{is_global_name, local_labels, once, once_by, below, order_of, symbol_number, symbol_by}
 use Rattle.asm_text.proofs.EmittingLemmas.{next_place}
-use Rattle.asm_text.proofs.EvenLemmas.{AreEven, IsSound, source_sound, IsEvenPlaced, source_even, nowhere_even, even_head, placed_even, all_even}
-use Rattle.asm_text.proofs.JumpLemmas.{jumps_are_meant, jumps_lead}
+use Rattle.asm_text.proofs.EvenLemmas.{AreEven, IsEvenPlaced, source_even, nowhere_even, even_head, placed_even, all_even}
+use Rattle.asm_text.proofs.JumpLemmas.{jump_means, jumps_lead}
 use Rattle.asm_text.proofs.KeptLemmas.{source_kept}
-use Rattle.asm_text.proofs.LockLemmas.{Agree, Shape, SomeLast, same_number, last_there, ok_is, IsTaken, taken, is_opened, agree_more}
-use Rattle.asm_text.proofs.MeaningLemmas.{coded_means}
+use Rattle.asm_text.proofs.LockLemmas.{Agree, Shape, SomeLast, same_number, last_there, ok_is, ok_or_is, IsTaken, taken, is_opened, agree_more}
+use Rattle.asm_text.proofs.MeaningLemmas.{words_are_meant}
+use Rattle.asm_text.proofs.WordLemmas.{option_map_some}
 use Rattle.asm_text.proofs.OrderLemmas.{length_below, below_at}
 use Rattle.asm_text.proofs.PlacedLemmas.{or_not}
 use Rattle.asm_text.proofs.SymbolLemmas.{each_symbol, symbol_has}
@@ -199,20 +201,26 @@ at_line m n (suc number) e f p q (x ∷ rest) s a even are j k is =
 pub record IsJump (m : Meanings) (section here : ℕ) (cn : Condition) (target : ℕ) (bytes : List ℕ) : Type 0 where
   pub offset : ℕ
   pub spot : spot_of m.spots target ≡ Some (record { section = section; offset = offset })
-  pub near : is_near (reach here offset) ≡ true
-  pub are : bytes ≡ word_bytes (jump_word cn (reach here offset))
+  pub word : ℕ
+  pub first : first_word (JumpInsn cn (reach here offset)) ≡ Some word
+  pub are : bytes ≡ word_bytes word
 
 is_jump : (m : Meanings) (n section here : ℕ) (cn : Condition) (target : ℕ) (bytes : List ℕ) → jump_bytes n section here cn (spot_of m.spots target) ≡ Ok bytes → IsJump m section here cn target bytes
 is_jump m n section here cn target bytes k = by (spot_of m.spots target) refl k
   where
-    by_near : (spot : Spot) (c : Bool) → spot_of m.spots target ≡ Some spot → spot.section ≡ section → is_near (reach here spot.offset) ≡ c
-        → cond c (Ok (word_bytes (jump_word cn (reach here spot.offset)))) (Err (Far n (reach here spot.offset))) ≡ Ok bytes → IsJump m section here cn target bytes
-    by_near spot true is same near j = record { offset = spot.offset; spot = is ∙ ap Some (λ i. record { section = same i; offset = spot.offset }); near = near; are = sym (ok_is _ bytes j) }
-    by_near spot false is same near j = absurd cc
+    by_words : (spot : Spot) → spot_of m.spots target ≡ Some spot → spot.section ≡ section → code_bytes (JumpInsn cn (reach here spot.offset)) ≡ Some bytes → IsJump m section here cn target bytes
+    by_words spot is same j = option_map_some (flat_map word_bytes) (encoded_words (JumpInsn cn (reach here spot.offset))) bytes j (λ words made puts.
+        option_map_some (λ w. w ∷ []) (first_word (JumpInsn cn (reach here spot.offset))) words made (λ word first are. record {
+          offset = spot.offset;
+          spot = is ∙ ap Some (λ i. record { section = same i; offset = spot.offset });
+          word = word;
+          first = first;
+          are = sym puts ∙ ap (flat_map word_bytes) (sym are);
+        }))
 
     by_section : (spot : Spot) (c : Bool) → spot_of m.spots target ≡ Some spot → nat_eq spot.section section ≡ c
         → cond c (jump_over n cn (reach here spot.offset)) (Err (NoLabel n)) ≡ Ok bytes → IsJump m section here cn target bytes
-    by_section spot true is same j = by_near spot (is_near (reach here spot.offset)) is (grind (arith, nat_tests)) refl j
+    by_section spot true is same j = by_words spot is (grind (arith, nat_tests)) (ok_or_is (code_bytes (JumpInsn cn (reach here spot.offset))) (Far n (reach here spot.offset)) bytes j)
     by_section spot false is same j = absurd cc
 
     by : (o : Option Spot) → spot_of m.spots target ≡ o → jump_bytes n section here cn o ≡ Ok bytes → IsJump m section here cn target bytes
@@ -388,14 +396,14 @@ reached_by s u number c name a known even line b j =
     record {
       section = section;
       here = here;
-      word = jump_word c (reach here there);
+      word = j.word;
       offset = reach here there;
       home = b.home;
       label = label;
       stands = stands_at s u a number (Jump c name) line b;
       given = ap (λ (v : UnitValue). slice_get v.sections section) (sym a.unit) ∙ b.given;
-      holds = bytes_there b.home.bytes b.front (word_bytes (jump_word c (reach here there))) b.back here (b.whole ∙ ap (λ bs. (b.front ++ bs) ++ b.back) j.are) b.size;
-      means = λ w1 w2. jumps_are_meant c w1 w2 (reach here there) j.near;
+      holds = bytes_there b.home.bytes b.front (word_bytes j.word) b.back here (b.whole ∙ ap (λ bs. (b.front ++ bs) ++ b.back) j.are) b.size;
+      means = λ w1 w2. jump_means c (reach here there) j.word w1 w2 j.first;
       symbol = subst (λ (v : UnitValue). Contains v.symbols label) a.unit (symbol_has (is_global_name s.statements) s.tables.names a.places.spots (symbol_order s a.places) has.0 name label is has.1 has.2);
       named = named;
       beside = refl;
@@ -436,9 +444,9 @@ code_is_written text u k number insn first second is =
     let a = accepted s u k in
     let line = line_of s u a number x (source_even text) is in
     let b = has_bytes (meanings s a.places) line.line line.written line.next a.end line.before line.after x (code_full insn first second) line.agree (taken line.line line.before line.after x (λ h. refl) line.places) line.emits line.keeps in
-    let low : number < length s.statements = slice_get_within s.statements number x is in
-    let sound : is_coded insn ≡ true = subst IsSound (get_or_from_slice_get s.statements number x x is) (source_sound text number x low) in
-    (written s u a number x (code_bytes insn) line b (sym (ok_is _ b.bytes b.made)), coded_means insn sound)
+    option_map_some (flat_map word_bytes) (encoded_words insn) b.bytes (ok_or_is (code_bytes insn) (LineFault line.line) b.bytes b.made) (λ words made puts.
+    subst (λ o. IsSomeAnd o (λ words. Writes s u number (flat_map word_bytes words) × IsMeant insn words)) (sym made)
+    (written s u a number x (flat_map word_bytes words) line b (sym puts), words_are_meant insn words made))
 
 pub words_are_written : WordsAreWritten
 unfolding assembled

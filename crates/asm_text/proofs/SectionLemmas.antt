@@ -6,9 +6,11 @@ use Rattle.std.proofs.lemmas.List.Elements.{All-cons, All-nil}
 use Rattle.asm_text.specs.declared.statement.Statement.{Statement}
 use Rattle.asm_text.specs.declared.statement.Statement.TheVariants.{Section, Label, Global, Word, Space, Jump, Code}
 use Rattle.asm_text.specs.declared.unit.AsmFault.{AsmFault}
+use Rattle.asm_text.specs.declared.unit.AsmFault.TheVariants.{Line as LineFault}
 use Rattle.asm_text.specs.declared.unit.SectionKind.{SectionKind}
 use Rattle.asm_text.specs.Assembly.{name_count, meanings, assembled}
 use Rattle.asm_text.specs.Emission.{Meanings, Emitted, nothing, emitted, emitted_from, statement_bytes, with_statement, in_last, grown}
+use Rattle.asm_text.specs.Encoding.{code_bytes}
 use Rattle.asm_text.specs.internal.Emitted.{newest_section}
 use Rattle.asm_text.specs.Parts.{SectionValue, UnitValue}
 use Rattle.asm_text.specs.Placing.{Placed, nowhere, spot_of, placed, placed_from}
@@ -16,7 +18,7 @@ use Rattle.asm_text.specs.Sections.{Line, PutsBytes, begins_section, up_to_secti
 use Rattle.asm_text.specs.Source.{SourceRead, source_read}
 use Rattle.asm_text.specs.Statements.{statement_size}
 use Rattle.asm_text.proofs.EmittingLemmas.{next_place}
-use Rattle.asm_text.proofs.LockLemmas.{Agree, last_there, ok_is, jump_size, IsTaken, taken, IsOpened, is_opened, agree_more}
+use Rattle.asm_text.proofs.LockLemmas.{Agree, last_there, ok_is, ok_or_is, jump_size, IsTaken, taken, IsOpened, is_opened, agree_more}
 use Rattle.asm_text.proofs.ReachLemmas.{next_line, accepted}
 
 -- ---- the last section
@@ -148,7 +150,7 @@ one_line m n e g f p q rest (Space size) a j k w =
 one_line m n e g f p q rest (Jump c t) a j k w =
     in_last_written m n e g f p q rest (Jump c t) refl (λ section here bytes made. jump_size n section here c (spot_of m.spots t) bytes made) a (taken n p q (Jump c t) (λ h. refl) j) k w
 one_line m n e g f p q rest (Code insn x y) a j k w =
-    in_last_written m n e g f p q rest (Code insn x y) refl (λ section here bytes made. sym (ok_is _ bytes made)) a (taken n p q (Code insn x y) (λ h. refl) j) k w
+    in_last_written m n e g f p q rest (Code insn x y) refl (λ section here bytes made. ok_or_is (code_bytes insn) (LineFault n) bytes made) a (taken n p q (Code insn x y) (λ h. refl) j) k w
 
 all_lines : (m : Meanings) (n : ℕ) (e f : Emitted) (p q : Placed) (statements : List (Statement ℕ)) → Agree m e p → placed_from n p statements ≡ Ok q → emitted_from m n e statements ≡ Ok f → Written e f statements
 all_lines m n e f p q [] a j k = record {

@@ -1,5 +1,5 @@
 -- What `show` writes of an instruction is read as that instruction.
-use Rattle.std.proofs.Common.{ℕ, zero, suc, ◌≡◌, ◌+◌, ◌-◌, ◌*◌, ◌/◌, ◌%◌, ◌<◌, Bool, true, false, not, cond, ◌&&◌, ◌||◌, List, [], ◌∷◌, ◌++◌, length, take, drop, Some, None, codes, nat_lt, nat_eq, refl, ap, sym, subst, ◌∙◌, append_assoc, length-append, arith, lit<}
+use Rattle.std.proofs.Common.{ℕ, zero, suc, ◌≡◌, ◌+◌, ◌-◌, ◌*◌, ◌/◌, ◌%◌, ◌<◌, Bool, true, false, not, cond, ◌&&◌, ◌||◌, List, [], ◌∷◌, ◌++◌, length, take, drop, Some, None, is_some, IsSomeAnd, codes, nat_eq, refl, ap, sym, subst, ◌∙◌, append_assoc, length-append, arith, lit<}
 use Rattle.std.specs.Prelude.{option_map}
 use Rattle.std.specs.List.{All, list_all}
 use Rattle.std.specs.Cmp.Lexicographic.{pointwise}
@@ -28,19 +28,21 @@ use Rattle.insn_decode.specs.declared.insn.Insn.{Insn}
 use Rattle.insn_decode.specs.declared.insn.Insn.TheVariants.{Two, One, Jump, Reti, Unit as UnitOp}
 use Rattle.insn_decode.specs.declared.insn.UnitName.{UnitName}
 use Rattle.insn_decode.specs.declared.insn.UnitName.TheVariants.{Unprotect}
-use Rattle.insn_decode.specs.Code.{words_of, is_constant}
+use Rattle.insn_decode.specs.Code.{words_of, is_constant, HasParts, HasForm}
 use Rattle.insn_decode.specs.Means.{unit_code}
+use Rattle.insn_decode.proofs.FormFacts.{decoded_form}
 use Rattle.insn_decode.specs.Text.{two_name, one_name, suffix_of, hex_text, operand_text, insn_text}
 use Rattle.asm_text.specs.declared.statement.Field.TheVariants.{Number}
 use Rattle.asm_text.specs.declared.statement.Statement.TheVariants.{Code}
-use Rattle.asm_text.specs.Encoding.{extension, extensions, is_plain, is_source, is_dest, is_coded}
+use Rattle.asm_text.specs.Encoding.{extension, extensions, first_word, IsMeant}
 use Rattle.asm_text.specs.Laws.{ShownIsRead, is_placeless_operand, is_placeless, AreWords}
 use Rattle.texts.specs.Words.{is_space, words}
 use Rattle.asm_text.specs.Lines.{mnemonic_width, base_of, two_op_of, one_op_of, condition_of, by_words, statement_of}
 use Rattle.asm_text.specs.Operands.{without_ending, field_of, of_field, plain, number_by, immediate_of, indirect_of, indexed_at, indexed_of, operand_of}
 use Rattle.asm_text.specs.Parts.{is_name}
-use Rattle.asm_text.proofs.CodedLemmas.{decoded_coded}
-use Rattle.asm_text.proofs.MeaningLemmas.{coded_means}
+use Rattle.asm_text.proofs.DecodedLemmas.{words_come_back}
+use Rattle.asm_text.proofs.MeaningLemmas.{words_are_meant}
+use Rattle.asm_text.proofs.WordLemmas.{option_map_some}
 
 -- a fact of each of the sixteen registers, or digits
 sixteen : (P : ℕ → Type 0) → P 0 → P 1 → P 2 → P 3 → P 4 → P 5 → P 6 → P 7 → P 8 → P 9 → P 10 → P 11 → P 12 → P 13 → P 14 → P 15 → (r : ℕ) → r < 16 → P r
@@ -98,24 +100,15 @@ IsShown (Absolute x) = x < 65536
 IsShown (Indirect r) = r < 16
 IsShown (Increment r) = r < 16
 
-plain_low : (r : ℕ) → is_plain r ≡ true → r < 16
-plain_low r e = let low = (and_parts (nat_lt r 16) _ (and_parts _ _ (and_parts _ _ e).0).0).0 in grind (arith, nat_tests)
-
-source_shown : (o : Operand) → is_source o ≡ true → is_placeless_operand o ≡ true → AreWords (extension o) → IsShown o
-source_shown (Reg r) e h small = let low = (and_parts (nat_lt r 16) (not (nat_eq r 3)) e).0 in grind (arith, nat_tests)
-source_shown (Const c) e h small = e
-source_shown (Imm x) e h small = small 0 0 (lit< tt)
-source_shown (Indexed r x) e h small = (plain_low r e, small 0 0 (lit< tt))
-source_shown (Symbolic x) e h small = absurd cc
-source_shown (Absolute x) e h small = small 0 0 (lit< tt)
-source_shown (Indirect r) e h small = plain_low r e
-source_shown (Increment r) e h small = plain_low r e
-
-dest_shown : (o : Operand) → is_dest o ≡ true → is_placeless_operand o ≡ true → AreWords (extension o) → IsShown o
-dest_shown (Reg r) e h small = grind (arith, nat_tests)
-dest_shown (Indexed r x) e h small = (plain_low r e, small 0 0 (lit< tt))
-dest_shown (Absolute x) e h small = small 0 0 (lit< tt)
-dest_shown _ e h small = absurd cc
+shown : (o : Operand) → HasParts o → is_placeless_operand o ≡ true → AreWords (extension o) → IsShown o
+shown (Reg r) p h small = p
+shown (Const c) p h small = p
+shown (Imm x) p h small = small 0 0 (lit< tt)
+shown (Indexed r x) p h small = (p, small 0 0 (lit< tt))
+shown (Symbolic x) p h small = absurd cc
+shown (Absolute x) p h small = small 0 0 (lit< tt)
+shown (Indirect r) p h small = p
+shown (Increment r) p h small = p
 
 word_read : (x : ℕ) → x < 65536 → read_hex_word (hex_word x) ≡ Some x
 word_read x small = (words_are_read (hex_word x) x).1 (small, refl)
@@ -233,13 +226,13 @@ one_text : (name suffix text : List ℕ) → name ++ suffix ++ codes " " ++ text
 one_text name suffix text = simp append_assoc
 
 two_read : (op : TwoOp) (w : Width) (s d : Operand) (name source dest : List ℕ) → IsTwoName op w name → IsWhole source → IsWhole dest → operand_of source ≡ Some (plain s) → operand_of dest ≡ Some (plain d)
-    → is_coded (Two op w s d) ≡ true → statement_of (name ++ 32 ∷ ((source ++ codes ",") ++ 32 ∷ dest)) ≡ Some (Code (Two op w s d) None None)
+    → is_some (first_word (Two op w s d)) ≡ true → statement_of (name ++ 32 ∷ ((source ++ codes ",") ++ 32 ∷ dest)) ≡ Some (Code (Two op w s d) None None)
 unfolding statement_of
 two_read op w s d name source dest n ps pd rs rd is =
     ap by_words (two_words name (source ++ codes ",") dest n.whole (whole_append source (codes ",") ps refl) pd)
     ∙ rw (n.other, comma_read source, n.width, n.op_is, rs, rd, is) refl
 
-one_read : (op : OneOp) (w : Width) (a : Operand) (name text : List ℕ) → IsOneName op w name → IsWhole text → operand_of text ≡ Some (plain a) → is_coded (One op w a) ≡ true
+one_read : (op : OneOp) (w : Width) (a : Operand) (name text : List ℕ) → IsOneName op w name → IsWhole text → operand_of text ≡ Some (plain a) → is_some (first_word (One op w a)) ≡ true
     → statement_of (name ++ 32 ∷ text) ≡ Some (Code (One op w a) None None)
 unfolding statement_of
 one_read op w a name text n p r is =
@@ -256,28 +249,29 @@ words_front (x ∷ xs) ys h =
     let rest = words_front xs ys (All-tail (λ word. word < 65536) x (xs ++ ys) h) in
     (All-cons (λ word. word < 65536) x xs (h 0 0 (omega arith)) rest.0, rest.1)
 
-insn_read : (insn : Insn) (at : ℕ) → is_coded insn ≡ true → is_placeless insn ≡ true → AreWords (extensions insn) → statement_of (insn_text insn at) ≡ Some (Code insn None None)
+insn_read : (insn : Insn) (at : ℕ) → HasForm insn → is_some (first_word insn) ≡ true → is_placeless insn ≡ true → AreWords (extensions insn) → statement_of (insn_text insn at) ≡ Some (Code insn None None)
 unfolding statement_of words
-insn_read (Two op w s d) at is h small =
-    let coded = and_parts (is_source s) (is_dest d) is in
+insn_read (Two op w s d) at form is h small =
     let fixed = and_parts (is_placeless_operand s) (is_placeless_operand d) h in
     let parts = words_front (extension s) (extension d) small in
-    let source = source_shown s coded.0 fixed.0 parts.0 in
-    let dest = dest_shown d coded.1 fixed.1 parts.1 in
+    let source = shown s form.0 fixed.0 parts.0 in
+    let dest = shown d form.1 fixed.1 parts.1 in
     let here = add16 at 2 in
     let there = add16 at (2 + 2 * words_of s) in
     ap statement_of (two_text (two_name op) (suffix_of w) (operand_text s here) (operand_text d there))
     ∙ two_read op w s d (two_name op ++ suffix_of w) (operand_text s here) (operand_text d there) (two_named w op) (operand_whole s here source) (operand_whole d there dest)
     (operand_read s here source) (operand_read d there dest) is
-insn_read (One op w a) at is h small =
-    let coded = and_parts (is_source a) _ is in
-    let source = source_shown a coded.0 h small in
+insn_read (One op w a) at form is h small =
+    let source = shown a form.0 h small in
     let here = add16 at 2 in
     ap statement_of (one_text (one_name op) (suffix_of w) (operand_text a here))
     ∙ one_read op w a (one_name op ++ suffix_of w) (operand_text a here) (one_named w op) (operand_whole a here source) (operand_read a here source) is
-insn_read (Jump c o) at is h small = absurd cc
-insn_read Reti at is h small = refl
-insn_read (UnitOp name) at is h small = unit_read name
+insn_read (Jump c o) at form is h small = absurd cc
+insn_read Reti at form is h small = refl
+insn_read (UnitOp name) at form is h small = unit_read name
 
 pub shown_is_read : ShownIsRead
-shown_is_read insn at d h small = let is = decoded_coded insn d h in (insn_read insn at is h small, coded_means insn is)
+shown_is_read insn at d h small =
+    let made = words_come_back d.first d.second d.third insn d.means in
+    let there : is_some (first_word insn) ≡ true = option_map_some (λ word. word ∷ extensions insn) (first_word insn) _ made (λ word is are. ap is_some is) in
+    (insn_read insn at (decoded_form insn d) there h small, subst (λ o. IsSomeAnd o (IsMeant insn)) (sym made) (words_are_meant insn _ made))

@@ -1,6 +1,7 @@
 -- The words of a line.
 use Rattle.std.proofs.Common.{ℕ, ◌≡◌, Bool, true, false, cond, List, [], ◌∷◌, Option, Some, None, is_some, refl, ap, ◌∙◌}
-use Rattle.std.specs.Prelude.{IfSome}
+use Rattle.std.specs.Prelude.{IfSome, option_map}
+use Rattle.std.proofs.lemmas.Option.{same_Some}
 use Rattle.std.specs.List.{slice_split, onto_first}
 use Rattle.texts.specs.Words.{is_space, words}
 use Rattle.asm_text.specs.Lines.{by_words, statement_of}
@@ -30,3 +31,7 @@ pub record SomeOf {A : Type 0} (P : A → Type 0) (o : Option A) : Type 0 where
 pub some_of : {A : Type 0} (P : A → Type 0) (o : Option A) → is_some o ≡ true → IfSome o P → SomeOf P o
 some_of P (Some a) e h = record { value = a; is = refl; holds = h }
 some_of P None e h = absurd cc
+
+pub option_map_some : {A B P : Type 0} (f : A → B) (o : Option A) (y : B) → option_map f o ≡ Some y → ((x : A) → o ≡ Some x → f x ≡ y → P) → P
+option_map_some f None y e k = absurd cc
+option_map_some f (Some x) y e k = k x refl (same_Some (f x) y e)

@@ -1,9 +1,9 @@
 -- What a statement that a line writes keeps.
-use Rattle.std.proofs.Common.{ℕ, ◌≡◌, ◌≤◌, Bool, true, false, cond, ◌&&◌, List, [], ◌∷◌, length, take, drop, codes, ◌%◌, Option, Some, None, nat_eq, nat_le, refl, ap, sym, subst, ◌∙◌, arith, lit<}
+use Rattle.std.proofs.Common.{ℕ, ◌≡◌, ◌≤◌, Bool, true, false, cond, ◌&&◌, List, [], ◌∷◌, length, take, drop, codes, ◌%◌, Option, Some, None, is_some, nat_eq, nat_le, refl, ap, sym, subst, ◌∙◌, arith, lit<}
 use Rattle.std.proofs.lemmas.Bool.Decides.{nat_tests}
 use Rattle.std.specs.Prelude.{option_map, option_and_then, slice_get}
 use Rattle.std.specs.Str.{bytes_eq}
-use Rattle.std.proofs.lemmas.Option.{same_Some}
+use Rattle.std.proofs.lemmas.Option.{same_Some, cond_some}
 use Rattle.texts.specs.Decimals.{read_decimal}
 use Rattle.texts.specs.Hexadecimals.{read_hex_word}
 use Rattle.texts.proofs.LawLemmas.{decimals_are_read}
@@ -23,7 +23,7 @@ use Rattle.asm_text.specs.declared.statement.Field.{Field}
 use Rattle.asm_text.specs.declared.statement.Field.TheVariants.{Number, Name}
 use Rattle.asm_text.specs.declared.statement.Statement.{Statement}
 use Rattle.asm_text.specs.declared.statement.Statement.TheVariants.{Section, Label, Global, Word, Space, Jump, Code}
-use Rattle.asm_text.specs.Encoding.{is_coded}
+use Rattle.asm_text.specs.Encoding.{first_word}
 use Rattle.texts.specs.Words.{is_space, words}
 use Rattle.asm_text.specs.Lines.{coded, mnemonic_width, base_of, two_op_of, one_op_of, condition_of, one_coded, two_coded, section_kind, section_statement, even_size, space_of, numbered_unit, unit_statement, alone, jump_or_one, with_one, two_operands, with_two, by_words, statement_of}
 use Rattle.asm_text.specs.Operands.{behind, without_ending, name_of, field_by, field_of, register_of, of_field, plain, number_by, immediate_of, indirect_by, indirect_of, indexed_at, indexed_by, without_end, indexed_of, register_operand, absolute_of, behind_or, operand_of}
@@ -45,7 +45,7 @@ IsWritten (Global name) = is_name name ≡ true
 IsWritten (Word field) = NamedField field
 IsWritten (Space size) = (size ≤ MAX_SIZE) × (size % 2 ≡ 0)
 IsWritten (Jump condition target) = is_name target ≡ true
-IsWritten (Code insn first second) = NamedOption first × NamedOption second × (is_coded insn ≡ true)
+IsWritten (Code insn first second) = NamedOption first × NamedOption second
 
 -- ---- names, fields and operands
 
@@ -133,11 +133,7 @@ operand_some text v e = by (behind (codes "r") text) (behind (codes "#") text) (
 -- ---- statements
 
 coded_some : (insn : Insn) (a b : Option (List ℕ)) (s : Statement (List ℕ)) → NamedOption a → NamedOption b → coded insn a b ≡ Some s → IsWritten s
-coded_some insn a b s x y e = by (is_coded insn) refl e
-  where
-    by : (c : Bool) → is_coded insn ≡ c → cond c (Some (Code insn a b)) None ≡ Some s → IsWritten s
-    by true is k = subst IsWritten (same_Some (Code insn a b) s k) (x, y, is)
-    by false is k = absurd cc
+coded_some insn a b s x y e = subst IsWritten (cond_some (is_some (first_word insn)) (Code insn a b) s e).1 (x, y)
 
 one_some : (w : Width) (op : Option OneOp) (text : List ℕ) (s : Statement (List ℕ)) → one_coded w op (operand_of text) ≡ Some s → IsWritten s
 one_some w op text s e = by op (operand_of text) refl e
@@ -185,7 +181,7 @@ unit_some : (text : List ℕ) (s : Statement (List ℕ)) → unit_statement text
 unit_some text s e = by (read_decimal 6 text) e
   where
     by_name : (o : Option UnitName) → option_map (λ name. Code (UnitOp name) None None) o ≡ Some s → IsWritten s
-    by_name (Some name) k = subst IsWritten (same_Some (Code (UnitOp name) None None) s k) (tt, tt, refl)
+    by_name (Some name) k = subst IsWritten (same_Some (Code (UnitOp name) None None) s k) (tt, tt)
     by_name None k = absurd cc
 
     by : (o : Option ℕ) → option_and_then numbered_unit o ≡ Some s → IsWritten s
@@ -238,7 +234,7 @@ alone_some : (word : List ℕ) (s : Statement (List ℕ)) → alone word ≡ Som
 alone_some word s e = by (bytes_eq word (codes "reti")) e
   where
     by : (c : Bool) → cond c (Some (Code Reti None None)) None ≡ Some s → IsWritten s
-    by true k = subst IsWritten (same_Some (Code Reti None None) s k) (tt, tt, refl)
+    by true k = subst IsWritten (same_Some (Code Reti None None) s k) (tt, tt)
     by false k = absurd cc
 
 pub statement_some : (line : List ℕ) (s : Statement (List ℕ)) → statement_of line ≡ Some s → IsWritten s

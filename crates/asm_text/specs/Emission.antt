@@ -1,8 +1,8 @@
 -- The bytes of the sections, line by line and without a gap, and the relocations; or the first jump that is refused.
-use Rattle.std.specs.Prelude.{ℕ, ◌+◌, ◌-◌, ◌*◌, ◌/◌, ◌==◌, nat_le, nat_lt, Bool, if◌then◌else◌, List, [], ◌∷◌, ◌++◌, length, slice_index_or, slice_get, slice_set, Option, Some, None, option_map, option_and_then, ok_or, Result, Ok, Err, ℤ, pos, negsuc, ◌-ℤ◌}
+use Rattle.std.specs.Prelude.{ℕ, ◌+◌, ◌-◌, ◌*◌, ◌/◌, ◌==◌, nat_le, if◌then◌else◌, List, [], ◌∷◌, ◌++◌, length, slice_index_or, slice_get, slice_set, Option, Some, None, option_map, option_and_then, ok_or, Result, Ok, Err, ℤ, pos, ◌-ℤ◌}
 use Rattle.sm_words.specs.Bytes.{word_bytes}
 use Rattle.insn_decode.specs.declared.insn.Condition.{Condition}
-use Rattle.insn_decode.specs.declared.insn.Insn.TheVariants.{Two, One}
+use Rattle.insn_decode.specs.declared.insn.Insn.TheVariants.{Two, One, Jump as JumpInsn}
 use Rattle.insn_decode.specs.declared.insn.Operand.{Operand}
 use Rattle.insn_decode.specs.Code.{words_of as words_in}
 use Rattle.asm_text.specs.declared.placing.Spot.{Spot}
@@ -11,10 +11,10 @@ use Rattle.asm_text.specs.declared.statement.Field.TheVariants.{Number, Name}
 use Rattle.asm_text.specs.declared.statement.Statement.{Statement}
 use Rattle.asm_text.specs.declared.statement.Statement.TheVariants.{Section, Label, Global, Word, Space, Jump, Code}
 use Rattle.asm_text.specs.declared.unit.AsmFault.{AsmFault}
-use Rattle.asm_text.specs.declared.unit.AsmFault.TheVariants.{Place, NoLabel, Far}
+use Rattle.asm_text.specs.declared.unit.AsmFault.TheVariants.{Line, Place, NoLabel, Far}
 use Rattle.asm_text.specs.declared.unit.AsmRelocation.{AsmRelocation}
 use Rattle.asm_text.specs.declared.unit.SectionKind.{SectionKind}
-use Rattle.asm_text.specs.Encoding.{code_bytes, jump_word}
+use Rattle.asm_text.specs.Encoding.{code_bytes}
 use Rattle.asm_text.specs.Parts.{SectionValue}
 use Rattle.asm_text.specs.Placing.{spot_of, unrefused}
 use Rattle.asm_text.specs.Statements.{statement_size}
@@ -39,13 +39,8 @@ nothing = record { sections = []; relocations = [] }
 abbrev pub reach : ℕ → ℕ → ℤ
 reach here there = if nat_le (here + 2) there then pos ((there - (here + 2)) / 2) else (pos 0 -ℤ pos ((here + 2 - there) / 2))
 
--- whether ten bits, signed, have the offset
-abbrev pub is_near : ℤ → Bool
-is_near (pos n) = nat_lt n 512
-is_near (negsuc n) = nat_lt n 512
-
 abbrev pub jump_over : ℕ → Condition → ℤ → Result (List ℕ) AsmFault
-jump_over n condition offset = if is_near offset then Ok (word_bytes (jump_word condition offset)) else Err (Far n offset)
+jump_over n condition offset = ok_or (code_bytes (JumpInsn condition offset)) (Far n offset)
 
 -- the jump of line n, at `here` in a section, to the spot of its name
 abbrev pub jump_bytes : ℕ → ℕ → ℕ → Condition → Option Spot → Result (List ℕ) AsmFault
@@ -53,7 +48,7 @@ jump_bytes n section here condition None = Err (NoLabel n)
 jump_bytes n section here condition (Some spot) =
     if spot.section == section then jump_over n condition (reach here spot.offset) else Err (NoLabel n)
 
--- ---- the bytes of a statement
+-- ---- the bytes of a statement; an instruction without words is refused, as where its line is read
 
 abbrev pub field_number : Field ℕ → ℕ
 field_number (Number n) = n
@@ -62,7 +57,7 @@ field_number (Name name) = 0
 abbrev pub statement_bytes : Meanings → ℕ → ℕ → ℕ → Statement ℕ → Result (List ℕ) AsmFault
 statement_bytes m n section here (Word field) = Ok (word_bytes (field_number field))
 statement_bytes m n section here (Jump condition target) = jump_bytes n section here condition (spot_of m.spots target)
-statement_bytes m n section here (Code insn first second) = Ok (code_bytes insn)
+statement_bytes m n section here (Code insn first second) = ok_or (code_bytes insn) (Line n)
 statement_bytes m n section here (Space size) = Ok []
 statement_bytes m n section here (Section name kind) = Ok []
 statement_bytes m n section here (Label name) = Ok []

@@ -1,5 +1,5 @@
 -- The statement that a line writes: words parted by single spaces.
-use Rattle.std.specs.Prelude.{ℕ, ◌%◌, ◌==◌, nat_le, ◌&&◌, if◌then◌else◌, List, [], ◌∷◌, Option, Some, None, option_map, option_and_then, codes, find, slice_get}
+use Rattle.std.specs.Prelude.{ℕ, ◌%◌, ◌==◌, nat_le, ◌&&◌, if◌then◌else◌, List, [], ◌∷◌, Option, Some, None, option_map, option_and_then, is_some, codes, find, slice_get}
 use Rattle.std.specs.Str.{bytes_eq}
 use Rattle.texts.specs.Decimals.{read_decimal}
 use Rattle.texts.specs.Words.{words}
@@ -17,7 +17,7 @@ use Rattle.asm_text.specs.declared.unit.SectionKind.TheVariants.{Code as CodeKin
 use Rattle.asm_text.specs.declared.statement.Statement.{Statement}
 use Rattle.asm_text.specs.declared.statement.Statement.TheVariants.{Section, Label, Global, Word, Space, Jump, Code}
 use Rattle.asm_text.specs.declared.TheConstants.{MAX_SIZE}
-use Rattle.asm_text.specs.Encoding.{is_coded}
+use Rattle.asm_text.specs.Encoding.{first_word}
 use Rattle.asm_text.specs.Operands.{name_of, field_of, operand_of, without_ending}
 use Rattle.asm_text.specs.Statements.{OperandValue}
 
@@ -25,7 +25,7 @@ use Rattle.asm_text.specs.Statements.{OperandValue}
 
 -- an instruction that some words mean
 abbrev pub coded : Insn → Option (List ℕ) → Option (List ℕ) → Option (Statement (List ℕ))
-coded insn first second = if is_coded insn then Some (Code insn first second) else None
+coded insn first second = if is_some (first_word insn) then Some (Code insn first second) else None
 
 -- the mnemonic before `.b`, if it ends so
 abbrev pub mnemonic_width : List ℕ → Width

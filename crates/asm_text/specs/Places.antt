@@ -1,12 +1,12 @@
 -- Where the lines of an accepted source stand, and what is written there.
-use Rattle.std.specs.Prelude.{ℕ, ◌≡◌, ◌+◌, List, length, take, drop, slice_get, Option, Some, Ok, option_map}
+use Rattle.std.specs.Prelude.{ℕ, ◌≡◌, ◌+◌, List, length, take, drop, flat_map, slice_get, Option, Some, Ok, IsSomeAnd, option_map}
 use Rattle.insn_decode.specs.declared.insn.Insn.{Insn}
 use Rattle.asm_text.specs.declared.statement.Field.{Field}
 use Rattle.asm_text.specs.declared.statement.Statement.TheVariants.{Word, Code}
 use Rattle.asm_text.specs.Assembly.{name_count, assembled}
 use Rattle.asm_text.specs.Emission.{field_number}
 use Rattle.sm_words.specs.Bytes.{word_bytes}
-use Rattle.asm_text.specs.Encoding.{code_bytes, IsMeant}
+use Rattle.asm_text.specs.Encoding.{encoded_words, IsMeant}
 use Rattle.asm_text.specs.Parts.{SectionValue, UnitValue}
 use Rattle.asm_text.specs.Placing.{Placed, nowhere, last_head, placed_from}
 use Rattle.asm_text.specs.Source.{SourceRead, source_read}
@@ -31,7 +31,7 @@ pub record Writes (s : SourceRead) (u : UnitValue) (number : ℕ) (bytes : List 
 abbrev pub CodeIsWritten : Type 0
 CodeIsWritten = (text : List ℕ) (u : UnitValue) → assembled text ≡ Ok u →
     (number : ℕ) (insn : Insn) (first second : Option ℕ) → slice_get (source_read text).statements number ≡ Some (Code insn first second) →
-    Writes (source_read text) u number (code_bytes insn) × IsMeant insn
+    IsSomeAnd (encoded_words insn) (λ words. Writes (source_read text) u number (flat_map word_bytes words) × IsMeant insn words)
 
 -- Each `word` of it has its number there, and 0 for a name.
 abbrev pub WordsAreWritten : Type 0

@@ -1,5 +1,5 @@
 -- What the sections of an accepted source hold, line by line.
-use Rattle.std.specs.Prelude.{ℕ, ◌≡◌, Bool, true, false, List, [], ◌∷◌, length, map, flat_map, if◌then◌else◌, Ok, All}
+use Rattle.std.specs.Prelude.{ℕ, ◌≡◌, Bool, true, false, List, [], ◌∷◌, length, map, flat_map, if◌then◌else◌, Some, Ok, All}
 use Rattle.asm_text.specs.declared.statement.Statement.{Statement}
 use Rattle.asm_text.specs.declared.statement.Statement.TheVariants.{Section, Word, Jump, Code}
 use Rattle.asm_text.specs.Assembly.{assembled}
@@ -16,7 +16,7 @@ pub record Line : Type 0 where
 
 -- an instruction puts its words, with 0 for names, a number its word, a jump one word, and another line nothing
 abbrev pub PutsBytes : Statement ℕ → List ℕ → Type 0
-PutsBytes (Code insn first second) bytes = bytes ≡ code_bytes insn
+PutsBytes (Code insn first second) bytes = code_bytes insn ≡ Some bytes
 PutsBytes (Word field) bytes = bytes ≡ word_bytes (field_number field)
 PutsBytes (Jump condition target) bytes = length bytes ≡ 2
 PutsBytes _ bytes = bytes ≡ []

@@ -1,6 +1,6 @@
 //! The bytes of the sections, and the relocations.
 
-ghost use Rattle.std.specs.Prelude.{◌≡◌, ◌≢◌, ◌<◌, ◌≤◌, ◌+◌, ◌-◌, ◌*◌, ◌++◌, ◌^◌, ℕ, length, flat_map, Ok, Err, Some, true, OnOk, IfOk, IfErr, MatchResult};
+ghost use Rattle.std.specs.Prelude.{◌≡◌, ◌≢◌, ◌<◌, ◌≤◌, ◌+◌, ◌-◌, ◌*◌, ◌++◌, ◌^◌, ℕ, length, flat_map, option_map, Ok, Err, Some, true, OnOk, IfOk, IfErr, MatchResult};
 ghost use Rattle.std.specs.Option.{option_to_list};
 ghost use Rattle.arrayvec.specs.ArrayVec.{array_vec_len};
 ghost use Rattle.sm_words.specs.Bytes.{word_bytes};
@@ -14,7 +14,7 @@ ghost use Rattle.asm_text.specs.Statements.{statement_size};
 ghost use Rattle.asm_text.specs.Views.{section_value};
 ghost use Rattle.asm_text.specs.Encoding as encoding;
 
-use crate::encoding::{encoded_first, jump_word};
+use crate::encoding::{first_word, jump_word};
 use crate::operand::string_of;
 use crate::placing::{Spot, statement_size};
 use crate::statement::{Field, Statement};
@@ -58,11 +58,12 @@ fn push_extension(operand: Operand, bytes: &mut Bytes)
     }
 }
 
-fn code_bytes(insn: Insn) -> Bytes
-    ensures { result.items ≡ encoding.code_bytes insn }
+fn code_bytes(insn: Insn) -> Option<Bytes>
+    ensures { option_map (λ bytes. bytes.items) result ≡ encoding.code_bytes insn }
 {
+    let word = first_word(insn)?;
     let mut bytes = ArrayVec::new();
-    push_word(encoded_first(insn), &mut bytes);
+    push_word(word, &mut bytes);
     match insn {
         Insn::Two { src, dst, .. } => {
             push_extension(src, &mut bytes);
@@ -71,7 +72,7 @@ fn code_bytes(insn: Insn) -> Bytes
         Insn::One { arg, .. } => push_extension(arg, &mut bytes),
         Insn::Jump { .. } | Insn::Reti | Insn::Unit(_) => {}
     }
-    bytes
+    Some(bytes)
 }
 
 fn word_bytes(word: u16) -> Bytes
@@ -95,12 +96,6 @@ fn reach(here: u32, there: u32) -> i64
     }
 }
 
-fn is_near(offset: i64) -> bool
-    ensures { result ≡ spec.is_near offset }
-{
-    -512 <= offset && offset < 512
-}
-
 // The jump of line n, at `here` in this section, to a spot.
 fn jump_bytes(
     n: u64,
@@ -120,11 +115,10 @@ fn jump_bytes(
         return Err(AsmFault::NoLabel { n });
     }
     let value = reach(here, spot.offset);
-    if is_near(value) {
-        Ok(word_bytes(jump_word(condition, value)))
-    } else {
-        Err(AsmFault::Far { n, value })
-    }
+    let Some(word) = jump_word(condition, value) else {
+        return Err(AsmFault::Far { n, value });
+    };
+    Ok(word_bytes(word))
 }
 
 /// What names mean: the names of sections, and of each name where its label stands, and its symbol.
@@ -170,7 +164,7 @@ fn statement_bytes(
         Statement::Jump { condition, target } => {
             jump_bytes(n, section, here, condition, meanings.spots[target])
         }
-        Statement::Code { insn, .. } => Ok(code_bytes(insn)),
+        Statement::Code { insn, .. } => code_bytes(insn).ok_or(AsmFault::Line { n }),
         Statement::Section { .. }
         | Statement::Label(_)
         | Statement::Global(_)

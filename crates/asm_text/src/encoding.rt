@@ -1,7 +1,8 @@
 //! The words of an instruction.
 
-ghost use Rattle.std.specs.Prelude.{◌≡◌, ◌≤◌, ◌<◌, ◌+◌, ◌*◌};
-ghost use Rattle.insn_decode.specs.Code.{one_fits, is_constant};
+ghost use Rattle.std.specs.Prelude.{◌≡◌, ◌≤◌, ◌<◌, ◌+◌, ◌*◌, IfSome};
+ghost use Rattle.insn_decode.specs.Code.{one_fits};
+ghost use Rattle.insn_decode.specs.declared.insn.Insn.TheVariants.{Jump};
 ghost use Rattle.insn_decode.specs.Means as means;
 ghost use Rattle.asm_text.specs.Encoding as spec;
 
@@ -54,38 +55,63 @@ fn one_code(op: OneOp) -> u16
     }
 }
 
-fn source_mode(operand: Operand) -> u16
-    ensures exact { result ≡ spec.source_mode operand }
-    ensures most { result < 4 }
+/// How a first word names an operand.
+#[derive(Clone, Copy)]
+pub struct OperandFields {
+    pub mode: u16,
+    pub register: u16,
+}
+
+fn fields(mode: u16, register: u16) -> Option<OperandFields>
+    ensures { result ≡ spec.fields mode register }
 {
-    match operand {
-        Operand::Reg(_) => 0,
-        Operand::Const(0) => 0,
-        Operand::Const(1) => 1,
-        Operand::Const(2) => 2,
-        Operand::Const(4) => 2,
-        Operand::Const(_) => 3,
-        Operand::Imm(_) => 3,
-        Operand::Indexed { .. } | Operand::Symbolic(_) | Operand::Absolute(_) => 1,
-        Operand::Indirect(_) => 2,
-        Operand::Increment(_) => 3,
+    Some(OperandFields { mode, register })
+}
+
+// R1 and R4 to R15 alone have these modes.
+fn plain_fields(mode: u16, reg: u8) -> Option<OperandFields>
+    ensures exact { result ≡ spec.plain_fields mode reg }
+    ensures most { IfSome result (λ fields. (fields.mode ≤ mode) × (fields.register < 16)) }
+{
+    if reg < 16 && reg != 0 && reg != 2 && reg != 3 {
+        fields(mode, u16::from(reg))
+    } else {
+        None
     }
 }
 
-fn operand_register(operand: Operand) -> u16
-    ensures exact { result ≡ spec.operand_register operand }
-    ensures most { result < 16 }
+fn source_fields(operand: Operand) -> Option<OperandFields>
+    ensures exact { result ≡ spec.source_fields operand }
+    ensures most { IfSome result (λ fields. (fields.mode < 4) × (fields.register < 16)) }
 {
     match operand {
-        Operand::Reg(reg)
-        | Operand::Indexed { reg, .. }
-        | Operand::Indirect(reg)
-        | Operand::Increment(reg) => u16::from(reg) % 16,
-        Operand::Const(4) => 2,
-        Operand::Const(8) => 2,
-        Operand::Const(_) => 3,
-        Operand::Imm(_) | Operand::Symbolic(_) => 0,
-        Operand::Absolute(_) => 2,
+        Operand::Reg(reg) if reg < 16 && reg != 3 => fields(0, u16::from(reg)),
+        Operand::Const(0) => fields(0, 3),
+        Operand::Const(1) => fields(1, 3),
+        Operand::Const(2) => fields(2, 3),
+        Operand::Const(4) => fields(2, 2),
+        Operand::Const(8) => fields(3, 2),
+        Operand::Const(0xffff) => fields(3, 3),
+        Operand::Reg(_) | Operand::Const(_) => None,
+        Operand::Imm(_) => fields(3, 0),
+        Operand::Indexed { reg, .. } => plain_fields(1, reg),
+        Operand::Symbolic(_) => fields(1, 0),
+        Operand::Absolute(_) => fields(1, 2),
+        Operand::Indirect(reg) => plain_fields(2, reg),
+        Operand::Increment(reg) => plain_fields(3, reg),
+    }
+}
+
+fn dest_fields(operand: Operand) -> Option<OperandFields>
+    ensures exact { result ≡ spec.dest_fields operand }
+    ensures most { IfSome result (λ fields. (fields.mode < 2) × (fields.register < 16)) }
+{
+    match operand {
+        Operand::Reg(reg) if reg < 16 => fields(0, u16::from(reg)),
+        Operand::Indexed { reg, .. } => plain_fields(1, reg),
+        Operand::Symbolic(_) => fields(1, 0),
+        Operand::Absolute(_) => fields(1, 2),
+        _ => None,
     }
 }
 
@@ -96,76 +122,6 @@ fn byte_flag(width: Width) -> u16
     match width {
         Width::Byte => 1,
         Width::Word => 0,
-    }
-}
-
-/// The word of a jump, with the offset's ten lowest bits.
-pub fn jump_word(condition: Condition, offset: i64) -> u16
-    ensures { result ≡ spec.jump_word condition offset }
-{
-    JUMP + u16::from(condition.number()) * 1024 + offset.rem_euclid(1024) as u16
-}
-
-/// The first word of an instruction.
-#[tactic(auto, unfolding(crate::specs::Encoding::encoded_first))]
-pub fn encoded_first(insn: Insn) -> u16
-    ensures { result ≡ spec.encoded_first insn }
-{
-    match insn {
-        Insn::Two {
-            op,
-            width,
-            src,
-            dst,
-        } => {
-            // A destination's mode, bit 7, is its number of words.
-            two_code(op) * 4096
-                + operand_register(src) * 256
-                + dst.words() * 128
-                + byte_flag(width) * 64
-                + source_mode(src) * 16
-                + operand_register(dst)
-        }
-        Insn::One { op, width, arg } => {
-            FORMAT_TWO
-                + one_code(op) * 128
-                + byte_flag(width) * 64
-                + source_mode(arg) * 16
-                + operand_register(arg)
-        }
-        Insn::Jump { condition, offset } => jump_word(condition, i64::from(offset)),
-        Insn::Reti => RETI,
-        Insn::Unit(name) => UNIT + u16::from(name.number()),
-    }
-}
-
-fn is_plain(reg: u8) -> bool
-    ensures { result ≡ spec.is_plain reg }
-{
-    reg < 16 && reg != 0 && reg != 2 && reg != 3
-}
-
-fn is_source(operand: Operand) -> bool
-    ensures { result ≡ spec.is_source operand }
-{
-    match operand {
-        Operand::Reg(reg) => reg < 16 && reg != 3,
-        Operand::Const(number) => matches!(number, 0 | 1 | 2 | 4 | 8 | 0xffff),
-        Operand::Imm(_) | Operand::Symbolic(_) | Operand::Absolute(_) => true,
-        Operand::Indexed { reg, .. } | Operand::Indirect(reg) | Operand::Increment(reg) => is_plain(
-            reg,
-        ),
-    }
-}
-
-fn is_dest(operand: Operand) -> bool
-    ensures { result ≡ spec.is_dest operand }
-{
-    match operand {
-        Operand::Reg(reg) => reg < 16,
-        Operand::Indexed { reg, .. } => is_plain(reg),
-        Operand::Symbolic(_) | Operand::Absolute(_) => true,
-        _ => false,
     }
 }
 
@@ -183,14 +139,55 @@ fn fits(op: OneOp, width: Width, arg: Operand) -> bool
     }
 }
 
-/// Whether the code table has the instruction, jumps aside.
-pub fn is_coded(insn: Insn) -> bool
-    ensures { result ≡ spec.is_coded insn }
+/// The word of a jump, whose offset has ten bits, signed.
+#[tactic(auto, unfolding(crate::specs::Encoding::first_word))]
+pub fn jump_word(condition: Condition, offset: i64) -> Option<u16>
+    ensures { result ≡ spec.first_word (Jump condition offset) }
+{
+    if offset < -512 || offset >= 512 {
+        return None;
+    }
+    Some(JUMP + u16::from(condition.number()) * 1024 + offset.rem_euclid(1024) as u16)
+}
+
+/// The first word of an instruction, where the code table has it.
+#[tactic(auto, unfolding(crate::specs::Encoding::first_word))]
+pub fn first_word(insn: Insn) -> Option<u16>
+    ensures { result ≡ spec.first_word insn }
 {
     match insn {
-        Insn::Two { src, dst, .. } => is_source(src) && is_dest(dst),
-        Insn::One { op, width, arg } => is_source(arg) && fits(op, width, arg),
-        Insn::Jump { .. } => false,
-        Insn::Reti | Insn::Unit(_) => true,
+        Insn::Two {
+            op,
+            width,
+            src,
+            dst,
+        } => {
+            let source = source_fields(src)?;
+            let dest = dest_fields(dst)?;
+            Some(
+                two_code(op) * 4096
+                    + source.register * 256
+                    + dest.mode * 128
+                    + byte_flag(width) * 64
+                    + source.mode * 16
+                    + dest.register,
+            )
+        }
+        Insn::One { op, width, arg } => {
+            let source = source_fields(arg)?;
+            if !fits(op, width, arg) {
+                return None;
+            }
+            Some(
+                FORMAT_TWO
+                    + one_code(op) * 128
+                    + byte_flag(width) * 64
+                    + source.mode * 16
+                    + source.register,
+            )
+        }
+        Insn::Jump { condition, offset } => jump_word(condition, i64::from(offset)),
+        Insn::Reti => Some(RETI),
+        Insn::Unit(name) => Some(UNIT + u16::from(name.number())),
     }
 }

@@ -1,14 +1,13 @@
 //! The laws of the assembler, each the contract of a function that does nothing.
 ghost use Rattle.asm_text.specs.Jumps.{JumpsReachLabels, LabelsAreEven};
-ghost use Rattle.asm_text.specs.Laws.{CodedIsMeant, JumpsAreMeant, JumpsLead, ShownIsRead, WordsComeBack};
+ghost use Rattle.asm_text.specs.Laws.{JumpsLead, ShownIsRead, WordsAreMeant, WordsComeBack};
 ghost use Rattle.asm_text.specs.Places.{CodeIsWritten, WordsAreWritten};
 ghost use Rattle.asm_text.specs.Sections.{SectionsAreLines};
 
-/// The words of each instruction that a line may write mean that instruction, with 0 for names; the word of a jump
-/// means that jump, which leads from its place to that of its label.
+/// The words of each instruction mean that instruction, with 0 for names; a jump leads from its place to that of its
+/// label.
 pub fn words_are_meant()
-    ensures coded { CodedIsMeant }
-    ensures jumps { JumpsAreMeant }
+    ensures words { WordsAreMeant }
     ensures labels { JumpsLead }
 {}
 

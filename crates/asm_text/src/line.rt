@@ -10,7 +10,7 @@ ghost use Rattle.asm_text.specs.Operands.{without_ending};
 ghost use Rattle.asm_text.specs.internal.Statements.{with_texts, operand_value};
 
 use crate::MAX_SIZE;
-use crate::encoding::is_coded;
+use crate::encoding::first_word;
 use crate::operand::{field_of, name_of, operand_of};
 use crate::statement::{Statement, Value};
 use crate::unit::SectionKind;
@@ -107,7 +107,7 @@ fn coded<'a>(
     ensures { option_map with_texts result ≡ spec.coded insn (option_copied first.entry)
         (option_copied second.entry) }
 {
-    if is_coded(insn) {
+    if first_word(insn).is_some() {
         Some(Statement::Code {
             insn,
             first,
