@@ -4,7 +4,7 @@ use Rattle.std.specs.Option.{option_map}
 use Rattle.layout_file.specs.declared.parts.VectorName.{VectorName}
 use Rattle.layout_file.specs.Values.{VectorValue}
 use Rattle.layout_file.specs.Views.{vector_of}
-use Rattle.cli_files.specs.SymbolNames.{vector_name, shown_byte}
+use Rattle.cli_files.specs.SymbolNames.{shown_byte}
 
 find_vector : (n : ℕ) (vectors : List VectorName) → find (λ (v : VectorValue). v.vector == n) (map vector_of vectors) ≡ option_map vector_of (find (λ (v : VectorName). v.vector == n) vectors)
 find_vector n [] = refl
@@ -13,6 +13,9 @@ find_vector n (v ∷ vs) =
       | true ↦ refl
       | false ↦ find_vector n vs
     ]
+
+abbrev vector_name : Option VectorValue → Option (List ℕ)
+vector_name vector = option_map (λ v. v.name) vector
 
 abbrev pub name_of_vector : Option VectorName → Option (List ℕ)
 name_of_vector vector = option_map (λ v. string_bytes v.name) vector

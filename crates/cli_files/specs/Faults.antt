@@ -79,17 +79,9 @@ script_fault_text (script_fault.Line n) = codes "Line " ++ decimal n
 script_fault_text (script_fault.Number n) = codes "Number " ++ decimal n
 script_fault_text script_fault.NoMemory = codes "NoMemory"
 
--- a number after a space
-abbrev pub number_text : ℕ → List ℕ
-number_text n = codes " " ++ decimal n
-
--- numbers, each after a space
-abbrev pub number_list : List ℕ → List ℕ
-number_list numbers = flat_map number_text numbers
-
--- a name, and numbers after it
+-- a name, and numbers after it, each after a space
 abbrev pub with_numbers : List ℕ → List ℕ → List ℕ
-with_numbers name numbers = name ++ number_list numbers
+with_numbers name numbers = name ++ flat_map (λ n. codes " " ++ decimal n) numbers
 
 abbrev pub object_fault_text : ElfFault → List ℕ
 object_fault_text (elf_fault.Short at) = codes "Short " ++ decimal at

@@ -115,14 +115,10 @@ pub record Need : Type 0 where
 abbrev pub need : List ℕ → Kind → Need
 need name kind = record { name = name; kind = kind }
 
--- the file of that name is these bytes, as far as files are told
-abbrev pub HasFile : Option FileMap → List ℕ → List ℕ → Type 0
-HasFile files name bytes = IfSome files (λ map. map name ≡ Some bytes)
-
--- the file that is needed serves, and holds this
+-- the file that is needed serves, as far as files are told, and holds this
 pub record Holds (files : Option FileMap) (wanted : Need) (held : Held) : Type 0 where
   pub bytes : List ℕ
-  pub file : HasFile files wanted.name bytes
+  pub file : IfSome files (λ map. map wanted.name ≡ Some bytes)
   pub short : length bytes ≤ most_bytes
   pub is : IsHeld wanted.kind bytes held
 

@@ -1,8 +1,8 @@
 // Faults of layouts, objects, programs and linking, put to a sink.
-ghost use Rattle.std.specs.Prelude.{◌++◌, codes};
+ghost use Rattle.std.specs.Prelude.{◌++◌, [], codes};
 ghost use Rattle.std.specs.Fmt.{decimal, signed_decimal};
 ghost use Rattle.sm_io.specs.Sink.{Puts};
-ghost use Rattle.cli_files.specs.Faults.{number_list, with_numbers, with_spot, module_number, layout_fault_text, object_fault_text, source_fault_text};
+ghost use Rattle.cli_files.specs.Faults.{with_numbers, with_spot, module_number, layout_fault_text, object_fault_text, source_fault_text};
 ghost use Rattle.cli_files.specs.LinkFaults.{link_fault_text, region_text, reloc_fault_text};
 
 use crate::lines::put_field;
@@ -16,7 +16,7 @@ use sm_io::{Failed, Sink, put_all};
 
 // Puts numbers, each after a space.
 fn put_list<S: Sink>(sink: &mut S, numbers: &[u64]) -> Result<(), Failed>
-    ensures { Puts S.taken S.faults S.sure sink.old sink.new (number_list numbers.now) result }
+    ensures { Puts S.taken S.faults S.sure sink.old sink.new (with_numbers [] numbers.now) result }
 {
     for number in numbers {
         match put_field(sink, b" ", *number) {

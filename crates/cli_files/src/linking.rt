@@ -1,5 +1,5 @@
 // Linking, and the symbol that a fault names.
-ghost use Rattle.std.specs.Prelude.{◌≡◌, ◌≤◌, ◌==◌, All, length, map, IfOk, IfErr, OnOk, Some, None, slice_get, find, string_bytes};
+ghost use Rattle.std.specs.Prelude.{◌≡◌, ◌≤◌, ◌==◌, All, length, map, IfOk, IfErr, OnOk, Some, None, slice_get, find, option_map, string_bytes};
 ghost use Rattle.std.specs.Option.{option_copied};
 ghost use Rattle.layout_file.specs.Layout.{layout_of};
 ghost use Rattle.link_symbols.specs.Passes.{IsLinkFaultOf};
@@ -93,7 +93,7 @@ fn symbol_of(objects: &[Object], object: u64, symbol: u64) -> Option<&[u8]>
 }
 
 fn vector_name(layout: &Layout, number: u64) -> Option<&[u8]>
-    ensures { option_copied result ≡ spec.vector_name (find (λ v. v.vector == number)
+    ensures { option_copied result ≡ option_map (λ v. v.name) (find (λ v. v.vector == number)
         (layout_of layout.entry.now).vectors) }
 {
     let vector = vector_with(layout.vectors.as_slice(), number)?;

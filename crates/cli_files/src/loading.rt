@@ -1,5 +1,5 @@
 // The files of a command, read whole and examined.
-ghost use Rattle.std.specs.Prelude.{◌≡◌, ◌≢◌, ◌≤◌, ◌^◌, ◌∷◌, [], IsTrue, IfOk, IfErr, Some, All, false, length, map};
+ghost use Rattle.std.specs.Prelude.{◌≡◌, ◌≢◌, ◌≤◌, ◌^◌, ◌∷◌, [], IsTrue, IfOk, IfErr, IfSome, Some, All, false, length, map};
 ghost use Rattle.std.specs.Option.{option_copied};
 ghost use Rattle.sm_io.specs.Faults.{HasCause};
 ghost use Rattle.asm_text.specs.Unit.{unit_of};
@@ -9,7 +9,7 @@ ghost use Rattle.mod_layout.specs.Table.{module_of};
 ghost use Rattle.mod_layout.specs.Tables.{IsModule};
 ghost use Rattle.script_file.specs.Bounds.{all_cycles};
 ghost use Rattle.cli_files.specs.Content.{IsContentRefusal};
-ghost use Rattle.cli_files.specs.Files.{Kind, Held, an_image, a_schedule, the_challenges, the_replies, image_file, image_with, schedule_file, challenges_file, trace_file, need, schedule_needs, HasFile, IsHeld, Holds, IsScheduleOf, most_bytes, certificates, arms_file, the_terms, terms_file, a_layout, an_object, layout_file, object_file, object_needs, HoldAll, a_script, script_file, a_unit, source_file};
+ghost use Rattle.cli_files.specs.Files.{Kind, Held, an_image, a_schedule, the_challenges, the_replies, image_file, image_with, schedule_file, challenges_file, trace_file, need, schedule_needs, IsHeld, Holds, IsScheduleOf, most_bytes, certificates, arms_file, the_terms, terms_file, a_layout, an_object, layout_file, object_file, object_needs, HoldAll, a_script, script_file, a_unit, source_file};
 ghost use Rattle.cli_files.specs.NameText.{name_text};
 ghost use Rattle.cli_files.specs.Causes.{IsNeedCause};
 
@@ -328,7 +328,7 @@ fn read_file<'a, F: Files>(
     name: &'a str,
     files: &mut F,
 ) -> Result<Vec<u8>, Refused<'a>>
-    ensures bytes { IfOk result (λ bytes. HasFile (F.content files.old) name.now bytes.items) }
+    ensures bytes { IfOk result (λ bytes. IfSome (F.content files.old) (λ map. map name.now ≡ Some bytes.items)) }
     ensures short { IfOk result (λ bytes. length bytes.items ≤ most_bytes) }
     ensures quiet { IfOk result (λ _. HasCause (F.faults files.old) (F.faults files.new) false) }
     ensures refused { IfErr result (λ refused. (kind : Kind) →

@@ -1,6 +1,6 @@
 use Rattle.std.proofs.Common.{[], ◌++◌, get_or, refl}
 use Rattle.sm_io.proofs.Putting.{took_nothing, cut_within, took_then, at_piece, past_piece}
-use Rattle.cli_files.specs.Faults.{number_text}
+use Rattle.cli_files.proofs.faults.put_list.Invariants.{number_text}
 use Rattle.cli_files.proofs.faults.put_list.Goals as goal
 
 pub loop-number-init : goal.loop-number-init
