@@ -1,11 +1,11 @@
 -- One more mark, and the ways back to one.
-use Rattle.std.proofs.Common.{◌≡◌, ℕ, zero, suc, ◌+◌, ◌-◌, ◌<◌, ◌≤◌, ◌^◌, List, [], ◌∷◌, ◌++◌, length, take, get_or, Bool, true, false, cond, nat_lt, Option, Some, None, is_some, sym, ◌∙◌, ap, subst, arith}
+use Rattle.std.proofs.Common.{◌≡◌, ℕ, zero, suc, ◌+◌, ◌-◌, ◌<◌, ◌≤◌, ◌^◌, List, [], ◌∷◌, ◌++◌, length, take, get_or, Bool, true, false, cond, nat_lt, Option, Some, None, IfSome, is_some, sym, ◌∙◌, ap, subst, arith}
 use Rattle.std.specs.List.{All, slice_get}
 use Rattle.std.specs.Option.{option_map, option_and_then}
 use Rattle.std.proofs.lemmas.Bool.Decides.{nat_tests}
 use Rattle.std.proofs.lemmas.List.{length-append, length-take-le}
 use Rattle.std.proofs.lemmas.List.Elements.{All-append, All-take}
-use Rattle.std.proofs.lemmas.Option.{slice_get-get_or, slice_get_past}
+use Rattle.std.proofs.lemmas.Option.{same_Some, slice_get-get_or, slice_get_past}
 use Rattle.sm_words.specs.Sums.{one_if}
 use Rattle.mem_map.specs.Contents.{Contents}
 use Rattle.written_machine.specs.Cycle.{after_cycles}
@@ -93,35 +93,48 @@ mark_full m ts g seen h full =
 
 -- ---- the state at a mark
 
+moment_is : (m : Machine) (ts : List Moment) (k : ℕ) (t : Moment) → Keeps m ts → k < length ts → t ≡ get_or ts k t →
+    moment_state (lasting_of m).fixed t (get_or (lasting_of m).marked k []) ≡ get_or (marks_of m ts) k (state_of m)
+moment_is m ts k t h live e =
+    let l = lasting_of m in
+    ap (λ (x : Moment). moment_state l.fixed x (get_or l.marked k [])) e ∙ sym (states_get l.fixed ts l.marked k (state_of m) t h.level live)
+
 -- it is that of its moment
 pub mark_is : (m : Machine) (ts : List Moment) (k : ℕ) (t : Moment) → Keeps m ts → k < length ts → t ≡ get_or ts k t →
-    mark_state (lasting_of m) k t ≡ get_or (marks_of m ts) k (state_of m)
+    mark_state (lasting_of m) k t ≡ Some (get_or (marks_of m ts) k (state_of m))
 mark_is m ts k t h live e =
     let l = lasting_of m in
-    ap (λ (x : Moment). mark_state l k x) e
-    ∙ sym (states_get l.fixed ts l.marked k (state_of m) t h.level live)
+    let level = h.level in
+    ap (option_map (moment_state l.fixed t)) (slice_get-get_or l.marked k [] (omega (arith, level, live))) ∙ ap Some (moment_is m ts k t h live e)
 
-pub mark_sound : (m : Machine) (ts : List Moment) (k : ℕ) (t : Moment) → Keeps m ts → k < length ts → t ≡ get_or ts k t → IsSound (mark_state (lasting_of m) k t)
+-- so is what goes there
+pub gone_is : (m n : Machine) (ts : List Moment) (k : ℕ) (t : Moment) → Keeps m ts → k < length ts → t ≡ get_or ts k t →
+    mark_state (lasting_of m) k t ≡ Some (state_of n) → state_of n ≡ get_or (marks_of m ts) k (state_of m)
+gone_is m n ts k t h live e is = same_Some (state_of n) (get_or (marks_of m ts) k (state_of m)) (sym is ∙ mark_is m ts k t h live e)
+
+pub mark_sound : (m : Machine) (ts : List Moment) (k : ℕ) (t : Moment) → Keeps m ts → k < length ts → t ≡ get_or ts k t → IfSome (mark_state (lasting_of m) k t) IsSound
 mark_sound m ts k t h live e =
     let n = marks_length m ts h in
-    subst IsSound (sym (mark_is m ts k t h live e)) (h.sound k (state_of m) (omega (arith, n, live)))
+    subst (λ o. IfSome o IsSound) (sym (mark_is m ts k t h live e)) (h.sound k (state_of m) (omega (arith, n, live)))
 
 pub mark_leads : (m : Machine) (ts : List Moment) (k : ℕ) (t : Moment) → Keeps m ts → k < length ts → t ≡ get_or ts k t →
-    LeadsTo (mark_state (lasting_of m) k t) (state_of m)
+    IfSome (mark_state (lasting_of m) k t) (λ s. LeadsTo s (state_of m))
 mark_leads m ts k t h live e =
     let n = marks_length m ts h in
-    subst (λ s. LeadsTo s (state_of m)) (sym (mark_is m ts k t h live e)) (h.chain.onward k (state_of m) (omega (arith, n, live)))
+    subst (λ o. IfSome o (λ s. LeadsTo s (state_of m))) (sym (mark_is m ts k t h live e)) (h.chain.onward k (state_of m) (omega (arith, n, live)))
 
 pub mark_in_step : (m : Machine) (ts : List Moment) (k : ℕ) (t : Moment) → Keeps m ts → k < length ts → t ≡ get_or ts k t → IsInStep t
 mark_in_step m ts k t h live e = subst IsInStep (sym e) (h.steady k t live)
 
 -- a machine that stands at a mark
 pub stands_back : (m n : Machine) (ts : List Moment) (k : ℕ) (t : Moment) → Keeps m ts → k < length ts → t ≡ get_or ts k t →
-    state_of n ≡ mark_state (lasting_of m) k t → n.port.bus.ticks ≡ t.bus.ticks → MachineStands n
-stands_back m n ts k t h live e is ticks = record {
-  sound = subst IsSound (sym is) (mark_sound m ts k t h live e);
-  in_step = λ runs. ticks ∙ mark_in_step m ts k t h live e (ap (λ (s : State). s.stop) (sym is) ∙ runs) ∙ ap (λ (s : State). s.cycle) (sym is);
-}
+    mark_state (lasting_of m) k t ≡ Some (state_of n) → n.port.bus.ticks ≡ t.bus.ticks → MachineStands n
+stands_back m n ts k t h live e is ticks =
+    let same = gone_is m n ts k t h live e is ∙ sym (moment_is m ts k t h live e) in
+    record {
+      sound = subst (λ o. IfSome o IsSound) is (mark_sound m ts k t h live e);
+      in_step = λ runs. ticks ∙ mark_in_step m ts k t h live e (ap (λ (s : State). s.stop) (sym same) ∙ runs) ∙ ap (λ (s : State). s.cycle) (sym same);
+    }
 
 -- ---- going there
 
@@ -166,18 +179,17 @@ mark_there m ts k h live = let n = marks_length m ts h in slice_get-get_or (mark
 
 -- back to mark k
 pub gone_back : (m n : Machine) (ts us : List Moment) (k : ℕ) (t : Moment) (g : Marked) → marked_of m ts ≡ g → Keeps m ts → k < length ts → t ≡ get_or ts k t → lasting_of n ≡ cut k (lasting_of m) → us ≡ take (k + 1) ts →
-    state_of n ≡ mark_state (lasting_of m) k t → back_to k g ≡ Some (marked_of n us)
+    mark_state (lasting_of m) k t ≡ Some (state_of n) → back_to k g ≡ Some (marked_of n us)
 gone_back m n ts us k t g seen h live at e items is =
     ap (back_to k) (sym seen)
-    ∙ ap (option_map (cut_at k (marked_of m ts))) (mark_there m ts k h live)
-    ∙ ap (λ (s : State). Some (cut_at k (marked_of m ts) s)) (sym (is ∙ mark_is m ts k t h live at))
+    ∙ ap (option_map (cut_at k (marked_of m ts))) (mark_there m ts k h live ∙ sym (mark_is m ts k t h live at) ∙ is)
     ∙ ap Some (sym (cut_marked m n ts us k e items))
 
 -- its number, and that it may be counted on
-pub back_number : (m n : Machine) (ts : List Moment) (k : ℕ) (t : Moment) → Keeps m ts → k < length ts → t ≡ get_or ts k t → state_of n ≡ mark_state (lasting_of m) k t →
+pub back_number : (m n : Machine) (ts : List Moment) (k : ℕ) (t : Moment) → Keeps m ts → k < length ts → t ≡ get_or ts k t → mark_state (lasting_of m) k t ≡ Some (state_of n) →
     (n.cycle ≤ m.cycle) × (n.cycle + one_if (is_some n.stop) ≤ 2 ^ 62)
 back_number m n ts k t h live e is =
-    let leads = subst (λ s. LeadsTo s (state_of m)) (sym is) (mark_leads m ts k t h live e) in
+    let leads = subst (λ o. IfSome o (λ s. LeadsTo s (state_of m))) is (mark_leads m ts k t h live e) in
     let number = leads_number (state_of n) (state_of m) leads in
     (leads.runs_to.rises, let most = h.number in omega (arith, number, most))
 
@@ -201,11 +213,11 @@ last_is addr k m ts g seen h live =
 
 -- by the number that was found, from the moment's state
 last_found : (addr k : ℕ) (m : Machine) (ts : List Moment) (t : Moment) (o : Option ℕ) → Keeps m ts → k < length ts → t ≡ get_or ts k t →
-    o ≡ last_number addr (mark_state (lasting_of m) k t) m.cycle → o ≡ state_number (last_of addr k m ts)
-last_found addr k m ts t o h live at e = e ∙ ap (λ (s : State). state_number (last_standing addr s (m.cycle - s.cycle))) (mark_is m ts k t h live at)
+    IfSome (mark_state (lasting_of m) k t) (λ s. o ≡ last_number addr s m.cycle) → o ≡ state_number (last_of addr k m ts)
+last_found addr k m ts t o h live at e = subst (λ x. IfSome x (λ s. o ≡ last_number addr s m.cycle)) (mark_is m ts k t h live at) e
 
 pub last_none : (addr k : ℕ) (m : Machine) (ts : List Moment) (t : Moment) (g : Marked) → marked_of m ts ≡ g → Keeps m ts → k < length ts → t ≡ get_or ts k t →
-    None ≡ last_number addr (mark_state (lasting_of m) k t) m.cycle → last_at addr k g ≡ None
+    IfSome (mark_state (lasting_of m) k t) (λ s. None ≡ last_number addr s m.cycle) → last_at addr k g ≡ None
 last_none addr k m ts t g seen h live at e =
     last_is addr k m ts g seen h live
     ∙ ap (option_map (cut_at k (marked_of m ts))) (none_numbered (last_of addr k m ts) (last_found addr k m ts t None h live at e))
@@ -220,7 +232,7 @@ pub record Found (addr k number : ℕ) (m : Machine) (ts : List Moment) : Type 0
   pub before : number < m.cycle
 
 pub last_some : (addr k number : ℕ) (m : Machine) (ts : List Moment) (t : Moment) → Keeps m ts → k < length ts → t ≡ get_or ts k t →
-    Some number ≡ last_number addr (mark_state (lasting_of m) k t) m.cycle → Found addr k number m ts
+    IfSome (mark_state (lasting_of m) k t) (λ s. Some number ≡ last_number addr s m.cycle) → Found addr k number m ts
 last_some addr k number m ts t h live at e =
     let s = get_or (marks_of m ts) k (state_of m) in
     let count = marks_length m ts h in
@@ -259,9 +271,7 @@ gone_number addr k number m n ts h found is =
 
 -- the way from the mark, whose marks of memory stand as they did
 pub went : (k number : ℕ) (m n : Machine) (ts : List Moment) (t : Moment) (l : Lasting) → Keeps m ts → k < length ts → t ≡ get_or ts k t → l ≡ lasting_of m →
-    state_of n ≡ after_cycles (mark_state l k t) (number - t.cycle) →
+    IfSome (mark_state l k t) (λ s. state_of n ≡ after_cycles s (number - s.cycle)) →
     state_of n ≡ after_cycles (get_or (marks_of m ts) k (state_of m)) (number - (get_or (marks_of m ts) k (state_of m)).cycle)
 went k number m n ts t l h live at e is =
-    is
-    ∙ ap (λ (x : Lasting). after_cycles (mark_state x k t) (number - t.cycle)) e
-    ∙ ap (λ (s : State). after_cycles s (number - s.cycle)) (mark_is m ts k t h live at)
+    subst (λ o. IfSome o (λ s. state_of n ≡ after_cycles s (number - s.cycle))) (ap (λ (x : Lasting). mark_state x k t) e ∙ mark_is m ts k t h live at) is

@@ -1,6 +1,6 @@
 //! Moments of a machine, and the ways to them.
 
-ghost use Rattle.std.specs.Prelude.{◌≡◌, ◌≤◌, ◌<◌, ◌+◌, ◌-◌, ◌^◌, length, is_some};
+ghost use Rattle.std.specs.Prelude.{◌≡◌, ◌≤◌, ◌<◌, ◌+◌, ◌-◌, ◌^◌, length, is_some, Some, IfSome};
 ghost use Rattle.sm_words.specs.Sums.{one_if};
 ghost use Rattle.written_machine.specs.Cycle.{after_cycles};
 ghost use Rattle.written_machine.specs.Standing.{stands_at};
@@ -73,7 +73,7 @@ impl Machine {
     /// Goes to a moment, whose bytes are mark `k` of memory, and keeps every mark.
     pub fn load(&mut self, k: u16, moment: &Moment)
         requires { k < length (lasting_of self.old).marked }
-        ensures state { state_of self.new ≡ mark_state (lasting_of self.old) k moment.now }
+        ensures state { mark_state (lasting_of self.old) k moment.now ≡ Some (state_of self.new) }
         ensures ticks { self.new.port.bus.ticks ≡ moment.now.bus.ticks }
         ensures lasting { lasting_of self.new ≡ lasting_of self.old }
     {
@@ -84,7 +84,7 @@ impl Machine {
     /// Goes to a moment, whose bytes are mark `k` of memory, and drops the marks above it.
     pub fn back(&mut self, k: u16, moment: &Moment)
         requires { k < length (lasting_of self.old).marked }
-        ensures state { state_of self.new ≡ mark_state (lasting_of self.old) k moment.now }
+        ensures state { mark_state (lasting_of self.old) k moment.now ≡ Some (state_of self.new) }
         ensures ticks { self.new.port.bus.ticks ≡ moment.now.bus.ticks }
         ensures lasting { lasting_of self.new ≡ cut k (lasting_of self.old) }
     {
@@ -149,10 +149,11 @@ impl Machine {
     pub fn last_since(&mut self, addr: u16, k: u16, moment: &Moment) -> Option<u64>
         requires mark { k < length (lasting_of self.old).marked }
         requires number { self.old.cycle + one_if (is_some self.old.stop) ≤ 2 ^ 62 }
-        requires sound { IsSound (mark_state (lasting_of self.old) k moment.now) }
+        requires sound { IfSome (mark_state (lasting_of self.old) k moment.now) IsSound }
         requires in_step { IsInStep moment.now }
-        requires leads { LeadsTo (mark_state (lasting_of self.old) k moment.now) (state_of self.old) }
-        ensures last { result ≡ last_number addr (mark_state (lasting_of self.old) k moment.now) self.old.cycle }
+        requires leads { IfSome (mark_state (lasting_of self.old) k moment.now) (λ s. LeadsTo s (state_of self.old)) }
+        ensures last { IfSome (mark_state (lasting_of self.old) k moment.now) (λ s.
+            result ≡ last_number addr s self.old.cycle) }
         ensures state { state_of self.new ≡ state_of self.old }
         ensures stands { MachineStands self.new }
         ensures lasting { lasting_of self.new ≡ lasting_of self.old }
@@ -171,11 +172,11 @@ impl Machine {
     pub fn return_to(&mut self, end: u64, k: u16, moment: &Moment)
         requires mark { k < length (lasting_of self.old).marked }
         requires number { end ≤ 2 ^ 62 }
-        requires sound { IsSound (mark_state (lasting_of self.old) k moment.now) }
+        requires sound { IfSome (mark_state (lasting_of self.old) k moment.now) IsSound }
         requires in_step { IsInStep moment.now }
-        requires runs { RunsTo end (mark_state (lasting_of self.old) k moment.now) }
-        ensures state { let s = mark_state (lasting_of self.old) k moment.now in
-            state_of self.new ≡ after_cycles s (end - s.cycle) }
+        requires runs { IfSome (mark_state (lasting_of self.old) k moment.now) (RunsTo end) }
+        ensures state { IfSome (mark_state (lasting_of self.old) k moment.now) (λ s.
+            state_of self.new ≡ after_cycles s (end - s.cycle)) }
         ensures stands { MachineStands self.new }
         ensures lasting { lasting_of self.new ≡ cut k (lasting_of self.old) }
     {

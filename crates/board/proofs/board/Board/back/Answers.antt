@@ -1,7 +1,7 @@
 use Rattle.std.proofs.Common.{◌≡◌, ◌+◌, ◌<◌, ◌≤◌, length, take, rules, refl, ◌∙◌, ap, arith}
 use Rattle.written_machine.specs.Marks.{Marked}
 use Rattle.board.specs.internal.Standing.{Lasting, lasting_of}
-use Rattle.board.proofs.Going.{back_none, back_number, gone_back, keeps_cut, mark_is, stands_back}
+use Rattle.board.proofs.Going.{back_none, back_number, gone_back, gone_is, keeps_cut, stands_back}
 use Rattle.board.proofs.board.Board.back.Goals as goal
 
 pub returns-then-k-marks-clause-none : goal.returns-then-k-marks-clause-none
@@ -23,7 +23,7 @@ invariant_of-self c =
     let k = c.args.k in
     let h = c.self.invariant.0 in
     let t = c.index.result.now in (
-      keeps_cut 0 k m n ts c.truncate.new.self.items h (live c) c.back.ensures.lasting (items c) (c.back.ensures.state ∙ mark_is m ts k t h (live c) (search rules))
+      keeps_cut 0 k m n ts c.truncate.new.self.items h (live c) c.back.ensures.lasting (items c) (gone_is m n ts k t h (live c) (search rules) c.back.ensures.state)
           (stands_back m n ts k t h (live c) (search rules) c.back.ensures.state c.back.ensures.ticks) (back_number m n ts k t h (live c) (search rules) c.back.ensures.state).1,
       let room : (lasting_of n).room ≡ (lasting_of m).room = ap (λ (l : Lasting). l.room) c.back.ensures.lasting in omega (arith, room, c.self.invariant.1, c.truncate.ensures.capacity),
     )

@@ -1,9 +1,9 @@
-use Rattle.std.proofs.Common.{◌≡◌, ℕ, List, ◌+◌, ◌-◌, ◌<◌, [], get_or, length, take, rules, refl, sym, ◌∙◌, ap, subst, arith}
+use Rattle.std.proofs.Common.{◌≡◌, ℕ, List, ◌+◌, ◌-◌, ◌<◌, IfSome, get_or, length, take, rules, refl, sym, ◌∙◌, ap, subst, arith}
 use Rattle.written_machine.specs.Cycle.{after_cycles}
 use Rattle.written_machine.specs.Marks.{Marked}
 use Rattle.board.specs.declared.moment.Moment.{Moment}
 use Rattle.board.specs.internal.Sound.{IsSound, RunsTo}
-use Rattle.board.specs.internal.Standing.{Lasting, lasting_of, marks_of, moment_state, state_of}
+use Rattle.board.specs.internal.Standing.{Lasting, lasting_of, mark_state, marks_of, state_of}
 use Rattle.board.proofs.Going.{Found, keeps_cut, last_gone, last_none, gone_number, last_some, mark_is, mark_leads, mark_sound, marks_length, went}
 use Rattle.board.proofs.board.Board.last.Goals as goal
 
@@ -56,7 +56,7 @@ return_to-requires-clause-sound c =
     let ts = c.self.inside.moments.items in
     let t = c.index-moment.result.now in
     let live = within c.args.k c.marks.result _ ts c.self.invariant.0.level c.marks.ensures.number (omega (arith, c.if-k-marks.false)) in
-    subst (λ (l : Lasting). IsSound (moment_state l.fixed t (get_or l.marked c.args.k []))) (sym c.last_since.ensures.lasting) (mark_sound m ts c.args.k t c.self.invariant.0 live (search rules))
+    subst (λ (l : Lasting). IfSome (mark_state l c.args.k t) IsSound) (sym c.last_since.ensures.lasting) (mark_sound m ts c.args.k t c.self.invariant.0 live (search rules))
 
 pub return_to-requires-clause-runs : goal.return_to-requires-clause-runs
 return_to-requires-clause-runs c =
@@ -66,8 +66,7 @@ return_to-requires-clause-runs c =
     let live = within c.args.k c.marks.result _ ts c.self.invariant.0.level c.marks.ensures.number (omega (arith, c.if-k-marks.false)) in
     let at : t ≡ get_or ts c.args.k t = search rules in
     let found = last_some c.args.addr c.args.k c.in-Some.cycle m ts t c.self.invariant.0 live at c.in-Some.ensures.last in
-    subst (λ (l : Lasting). RunsTo c.in-Some.cycle (moment_state l.fixed t (get_or l.marked c.args.k []))) (sym c.last_since.ensures.lasting)
-    (subst (RunsTo c.in-Some.cycle) (sym (mark_is m ts c.args.k t c.self.invariant.0 live at)) found.runs)
+    subst (λ o. IfSome o (RunsTo c.in-Some.cycle)) (sym (ap (λ (l : Lasting). mark_state l c.args.k t) c.last_since.ensures.lasting ∙ mark_is m ts c.args.k t c.self.invariant.0 live at)) found.runs
 
 -- ---- the board that went there
 
