@@ -5,11 +5,11 @@ use Rattle.std.proofs.lemmas.List.{length-map, map-set, get_or-map, get_or_defau
 use Rattle.std.proofs.lemmas.Option.{slice_get-get_or}
 use Rattle.asm_text.specs.declared.unit.AsmFault.{AsmFault}
 use Rattle.asm_text.specs.declared.unit.AsmSection.{AsmSection}
-use Rattle.asm_text.specs.declared.statement.Statement.{Statement}
+use Rattle.asm_line.specs.declared.statement.Statement.{Statement}
 use Rattle.asm_text.specs.Emission.{Meanings, Emitted, statement_bytes, statement_relocations, grown, with_statement, in_last}
 use Rattle.asm_text.specs.internal.Emitted.{newest_section}
 use Rattle.asm_text.specs.Parts.{SectionValue}
-use Rattle.asm_text.specs.Statements.{statement_size}
+use Rattle.asm_line.specs.Statements.{statement_size}
 use Rattle.asm_text.specs.Views.{section_value}
 
 pub last_section : (xs : List AsmSection) (i : ℕ) (x : AsmSection) → i + 1 ≡ length xs → x ≡ get_or xs i x → newest_section (map section_value xs) ≡ Some (section_value x)

@@ -3,19 +3,19 @@ use Rattle.std.proofs.Common.{ℕ, ◌≡◌, ◌+◌, ◌-◌, ◌<◌, ◌≤�
 use Rattle.std.specs.List.{All}
 use Rattle.std.proofs.lemmas.List.{get_or-map, drop_more}
 use Rattle.std.proofs.lemmas.Option.{slice_get_within, get_or_from_slice_get}
-use Rattle.asm_text.specs.declared.TheConstants.{MAX_SIZE}
+use Rattle.asm_line.specs.declared.TheConstants.{MAX_SIZE}
 use Rattle.asm_text.specs.declared.placing.Head.{Head}
 use Rattle.asm_text.specs.declared.unit.AsmFault.{AsmFault}
-use Rattle.asm_text.specs.declared.unit.SectionKind.TheVariants.{Code as CodeKind}
-use Rattle.asm_text.specs.declared.statement.Statement.{Statement}
-use Rattle.asm_text.specs.declared.statement.Statement.TheVariants.{Word, Space, Jump, Code}
+use Rattle.asm_line.specs.declared.statement.SectionKind.TheVariants.{Code as CodeKind}
+use Rattle.asm_line.specs.declared.statement.Statement.{Statement}
+use Rattle.asm_line.specs.declared.statement.Statement.TheVariants.{Word, Space, Jump, Code}
 use Rattle.asm_text.specs.Emission.{Meanings, Emitted, nothing, emitted, emitted_from}
 use Rattle.asm_text.specs.internal.Emitted.{HasRoom}
 use Rattle.asm_text.specs.internal.Known.{AreKnown}
 use Rattle.asm_text.specs.Parts.{SectionValue}
 use Rattle.asm_text.specs.internal.Placed.{IsPlaced, AreSmall}
 use Rattle.asm_text.specs.Placing.{Placed, placed, unrefused, placed_from}
-use Rattle.asm_text.specs.Statements.{statement_size}
+use Rattle.asm_line.specs.Statements.{statement_size}
 use Rattle.asm_text.proofs.LockLemmas.{Shape, shape_of, head_shape, Agree, same_number, last_there, IsTaken, taken, agree_more}
 use Rattle.asm_text.proofs.PlacedLemmas.{placed_kept}
 

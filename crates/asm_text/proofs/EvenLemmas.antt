@@ -4,24 +4,25 @@ use Rattle.std.specs.List.{All}
 use Rattle.std.proofs.lemmas.Bool.{cases_lt}
 use Rattle.std.proofs.lemmas.List.{get_or-set_other, get_or-set_same, set_past}
 use Rattle.std.proofs.lemmas.List.Elements.{All-push, All-set}
-use Rattle.asm_text.specs.declared.TheConstants.{MAX_SECTIONS, MAX_LABELS, MAX_SIZE}
+use Rattle.asm_text.specs.declared.TheConstants.{MAX_SECTIONS, MAX_LABELS}
+use Rattle.asm_line.specs.declared.TheConstants.{MAX_SIZE}
 use Rattle.asm_text.specs.declared.placing.Head.{Head}
 use Rattle.asm_text.specs.declared.placing.Spot.{Spot}
 use Rattle.asm_text.specs.declared.unit.AsmFault.TheVariants.{Place, Twice, TooMany, Large}
-use Rattle.asm_text.specs.declared.unit.SectionKind.{SectionKind}
-use Rattle.asm_text.specs.declared.statement.Field.TheVariants.{Name}
-use Rattle.asm_text.specs.declared.statement.Statement.{Statement}
-use Rattle.asm_text.specs.declared.statement.Statement.TheVariants.{Section, Label, Global, Word, Space, Jump, Code}
-use Rattle.asm_text.specs.Lines.{statement_of}
+use Rattle.asm_line.specs.declared.statement.SectionKind.{SectionKind}
+use Rattle.asm_line.specs.declared.statement.Field.TheVariants.{Name}
+use Rattle.asm_line.specs.declared.statement.Statement.{Statement}
+use Rattle.asm_line.specs.declared.statement.Statement.TheVariants.{Section, Label, Global, Word, Space, Jump, Code}
+use Rattle.asm_line.specs.Lines.{statement_of}
 use Rattle.asm_text.specs.Names.{Tables, no_tables, tables_after, numbered}
 use Rattle.asm_text.specs.Placing.{Placed, nowhere, has_section, placed_section, spot_of, with_label, with_bytes, within, in_section, last_head, placed, placed_from}
 use Rattle.asm_text.specs.Source.{more, source_by, source_from, source_read}
-use Rattle.asm_text.specs.Statements.{statement_size, kind_takes}
+use Rattle.asm_line.specs.Statements.{statement_size, kind_takes}
 use Rattle.asm_text.proofs.EmittingLemmas.{next_place}
 use Rattle.asm_text.proofs.LockLemmas.{ok_is}
 use Rattle.asm_text.proofs.PlacedLemmas.{is_last, or_not, new_head, more_heads, spot_here, more_labels, grown_head, more_bytes}
 use Rattle.asm_text.proofs.PlacingLemmas.{no_spot}
-use Rattle.asm_text.proofs.WrittenLemmas.{IsWritten, statement_some}
+use Rattle.asm_line.proofs.WrittenLemmas.{IsWritten, statement_some}
 use Rattle.texts.specs.Lines.{ended_lines, unended}
 
 -- ---- statements

@@ -10,18 +10,18 @@ use Rattle.std.proofs.lemmas.Slice.Eq.{bytes_eq-Decides}
 use Rattle.texts.specs.Lines.{ended_lines, unended, lines_text}
 use Rattle.texts.proofs.LawLemmas.{texts_are_lines}
 use Rattle.asm_text.specs.declared.TheConstants.{MAX_SOURCE}
-use Rattle.asm_text.specs.declared.statement.Field.TheVariants.{Number, Name}
-use Rattle.asm_text.specs.declared.statement.Statement.{Statement}
-use Rattle.asm_text.specs.declared.statement.Statement.TheVariants.{Section, Label, Global, Word, Space, Jump, Code}
+use Rattle.asm_line.specs.declared.statement.Field.TheVariants.{Number, Name}
+use Rattle.asm_line.specs.declared.statement.Statement.{Statement}
+use Rattle.asm_line.specs.declared.statement.Statement.TheVariants.{Section, Label, Global, Word, Space, Jump, Code}
 use Rattle.asm_text.specs.internal.Emitted.{AreNames}
 use Rattle.asm_text.specs.internal.Kept.{IsSource}
 use Rattle.asm_text.specs.internal.Known.{IsBelow, IsKnown, AreKnown, IsNamed, AreNamed}
-use Rattle.asm_text.specs.Lines.{statement_of}
+use Rattle.asm_line.specs.Lines.{statement_of}
 use Rattle.asm_text.specs.Names.{name_number, noted_by, name_added, Tables, no_tables, noted_option, number_option, tables_after, numbered}
-use Rattle.asm_text.specs.Parts.{is_name}
+use Rattle.asm_line.specs.Identifiers.{is_name}
 use Rattle.asm_text.specs.Source.{SourceRead, more, source_by, source_from, source_read}
 use Rattle.asm_text.proofs.PlaceLemmas.{place_none}
-use Rattle.asm_text.proofs.WrittenLemmas.{NamedOption, IsWritten, statement_some, two_bytes}
+use Rattle.asm_line.proofs.WrittenLemmas.{NamedOption, IsWritten, statement_some, two_bytes}
 
 -- ---- a list of names
 

@@ -12,23 +12,24 @@ use Rattle.insn_decode.specs.declared.insn.Insn.TheVariants.{Two, One, Jump as J
 use Rattle.insn_decode.specs.declared.insn.Operand.{Operand}
 use Rattle.insn_decode.specs.declared.insn.Operand.TheVariants.{Reg}
 use Rattle.insn_decode.specs.Code.{words_of as words_in, length_of}
-use Rattle.asm_text.specs.declared.TheConstants.{MAX_SECTIONS, MAX_LABELS, MAX_SIZE}
+use Rattle.asm_text.specs.declared.TheConstants.{MAX_SECTIONS, MAX_LABELS}
+use Rattle.asm_line.specs.declared.TheConstants.{MAX_SIZE}
 use Rattle.asm_text.specs.declared.placing.Head.{Head}
 use Rattle.asm_text.specs.declared.placing.Spot.{Spot}
 use Rattle.asm_text.specs.declared.unit.AsmFault.{AsmFault}
 use Rattle.asm_text.specs.declared.unit.AsmFault.TheVariants.{Line, Place, Twice, TooMany, Large, NoLabel, Far}
-use Rattle.asm_text.specs.declared.unit.SectionKind.{SectionKind}
-use Rattle.asm_text.specs.declared.unit.SectionKind.TheVariants.{Code as CodeKind, Data as DataKind, Bss as BssKind}
-use Rattle.asm_text.specs.declared.statement.Statement.{Statement}
-use Rattle.asm_text.specs.declared.statement.Statement.TheVariants.{Section, Label, Global, Word, Space, Jump, Code}
+use Rattle.asm_line.specs.declared.statement.SectionKind.{SectionKind}
+use Rattle.asm_line.specs.declared.statement.SectionKind.TheVariants.{Code as CodeKind, Data as DataKind, Bss as BssKind}
+use Rattle.asm_line.specs.declared.statement.Statement.{Statement}
+use Rattle.asm_line.specs.declared.statement.Statement.TheVariants.{Section, Label, Global, Word, Space, Jump, Code}
 use Rattle.asm_text.specs.Emission.{Meanings, Emitted, statement_bytes, grown, with_statement, in_last, opened, emitted, field_number, jump_bytes, jump_over, reach}
 use Rattle.asm_text.specs.internal.Emitted.{newest_section}
 use Rattle.sm_words.specs.Bytes.{word_bytes}
-use Rattle.asm_text.specs.Encoding.{extension, extensions, first_word, encoded_words, code_bytes}
+use Rattle.asm_line.specs.Encoding.{extension, extensions, first_word, encoded_words, code_bytes}
 use Rattle.asm_text.specs.Parts.{SectionValue, kept_size}
 use Rattle.asm_text.specs.Placing.{Placed, placed_section, with_bytes, with_label, within, in_section, last_head, placed, has_section, spot_of}
-use Rattle.asm_text.specs.Statements.{statement_size, kind_takes}
-use Rattle.asm_text.proofs.WordLemmas.{option_map_some}
+use Rattle.asm_line.specs.Statements.{statement_size, kind_takes}
+use Rattle.asm_line.proofs.WordLemmas.{option_map_some}
 
 -- what a section and its head share
 pub record Shape : Type 0 where

@@ -13,7 +13,7 @@ use Rattle.std.proofs.lemmas.Option.{slice_get_within, slice_get-get_or, slice_g
 use Rattle.std.proofs.lemmas.Str.Ascii.{IsAscii-from_all}
 use Rattle.asm_text.specs.internal.Emitted.{AreNames}
 use Rattle.asm_text.specs.internal.Maps.{texts_in}
-use Rattle.asm_text.specs.Parts.{is_name_byte, is_name}
+use Rattle.asm_line.specs.Identifiers.{is_name_byte, is_name}
 
 low_byte : (b : ℕ) → is_name_byte b ≡ true → b < 128
 unfolding is_name_byte

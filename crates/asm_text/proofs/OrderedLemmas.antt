@@ -6,7 +6,7 @@ use Rattle.std.proofs.lemmas.Bool.Decides.{nat_tests}
 use Rattle.std.proofs.lemmas.List.Elements.{All-push}
 use Rattle.std.proofs.lemmas.List.Quantifiers.{all_pairs_push}
 use Rattle.std.proofs.lemmas.List.Sums.{fails_before_first}
-use Rattle.asm_text.specs.declared.statement.Statement.{Statement}
+use Rattle.asm_line.specs.declared.statement.Statement.{Statement}
 use Rattle.asm_text.specs.internal.Numbering.{AreBelow}
 use Rattle.asm_text.specs.Placing.{Placed}
 use Rattle.asm_text.specs.Symbols.{local_labels, symbol_number, once_by, once, below, order_of}

@@ -8,17 +8,18 @@ use Rattle.std.proofs.lemmas.List.Folds.{list_any_at}
 use Rattle.std.proofs.lemmas.List.Quantifiers.{all_pairs_push}
 use Rattle.std.proofs.lemmas.Option.{slice_get_within, get_or_from_slice_get}
 use Rattle.std.proofs.Math.Seq.{map-set_same}
-use Rattle.asm_text.specs.declared.TheConstants.{MAX_SECTIONS, MAX_LABELS, MAX_SIZE}
+use Rattle.asm_text.specs.declared.TheConstants.{MAX_SECTIONS, MAX_LABELS}
+use Rattle.asm_line.specs.declared.TheConstants.{MAX_SIZE}
 use Rattle.asm_text.specs.declared.placing.Head.{Head}
 use Rattle.asm_text.specs.declared.placing.Spot.{Spot}
 use Rattle.asm_text.specs.declared.unit.AsmFault.TheVariants.{Place, Twice, TooMany, Large}
-use Rattle.asm_text.specs.declared.unit.SectionKind.{SectionKind}
-use Rattle.asm_text.specs.declared.statement.Statement.{Statement}
-use Rattle.asm_text.specs.declared.statement.Statement.TheVariants.{Section, Label, Global, Word, Space, Jump, Code}
+use Rattle.asm_line.specs.declared.statement.SectionKind.{SectionKind}
+use Rattle.asm_line.specs.declared.statement.Statement.{Statement}
+use Rattle.asm_line.specs.declared.statement.Statement.TheVariants.{Section, Label, Global, Word, Space, Jump, Code}
 use Rattle.asm_text.specs.internal.Known.{IsKnown}
 use Rattle.asm_text.specs.internal.Placed.{IsPlaced, names_in}
 use Rattle.asm_text.specs.Placing.{Placed, has_section, placed_section, spot_of, with_label, with_bytes, within, in_section, last_head, placed}
-use Rattle.asm_text.specs.Statements.{statement_size, kind_takes}
+use Rattle.asm_line.specs.Statements.{statement_size, kind_takes}
 
 -- ---- the last section
 

@@ -2,7 +2,7 @@
 use Rattle.std.proofs.Common.{ℕ, suc, ◌≡◌, ◌+◌, ◌<◌, List, length, get_or, replicate, drop, Some, None, Ok, ap, ◌∙◌}
 use Rattle.std.proofs.lemmas.List.{drop_more}
 use Rattle.asm_text.specs.declared.placing.Spot.{Spot}
-use Rattle.asm_text.specs.declared.statement.Statement.{Statement}
+use Rattle.asm_line.specs.declared.statement.Statement.{Statement}
 use Rattle.asm_text.specs.internal.Known.{AreKnown}
 use Rattle.asm_text.specs.internal.Placed.{IsPlaced}
 use Rattle.asm_text.specs.Placing.{Placed, nowhere, spot_of, placed, unrefused, placed_from}

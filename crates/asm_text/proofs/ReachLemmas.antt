@@ -12,18 +12,18 @@ use Rattle.insn_decode.specs.declared.insn.Insn.{Insn}
 use Rattle.insn_decode.specs.declared.insn.Insn.TheVariants.{Jump as JumpInsn}
 use Rattle.asm_text.specs.declared.placing.Head.{Head}
 use Rattle.asm_text.specs.declared.placing.Spot.{Spot}
-use Rattle.asm_text.specs.declared.statement.Field.{Field}
-use Rattle.asm_text.specs.declared.statement.Statement.TheVariants.{Section, Label, Global, Word, Space, Jump, Code}
-use Rattle.asm_text.specs.declared.statement.Statement.{Statement}
+use Rattle.asm_line.specs.declared.statement.Field.{Field}
+use Rattle.asm_line.specs.declared.statement.Statement.TheVariants.{Section, Label, Global, Word, Space, Jump, Code}
+use Rattle.asm_line.specs.declared.statement.Statement.{Statement}
 use Rattle.asm_text.specs.declared.unit.AsmFault.TheVariants.{Line as LineFault, NoLabel, Far}
 use Rattle.asm_text.specs.declared.unit.AsmFault.{AsmFault}
-use Rattle.asm_text.specs.declared.unit.SectionKind.TheVariants.{Code as CodeKind, Data as DataKind, Bss as BssKind}
-use Rattle.asm_text.specs.declared.unit.SectionKind.{SectionKind}
+use Rattle.asm_line.specs.declared.statement.SectionKind.TheVariants.{Code as CodeKind, Data as DataKind, Bss as BssKind}
+use Rattle.asm_line.specs.declared.statement.SectionKind.{SectionKind}
 use Rattle.asm_text.specs.Assembly.{name_count, symbol_order, meanings, unit_for, with_emitted, with_stop, with_placed, assembled_source, assembled}
 use Rattle.asm_text.specs.Emission.{Meanings, Emitted, nothing, emitted, emitted_from, statement_bytes, field_number, with_statement, in_last, grown, reach, jump_over, jump_bytes}
 use Rattle.asm_text.specs.internal.Emitted.{newest_section}
 use Rattle.sm_words.specs.Bytes.{word_bytes}
-use Rattle.asm_text.specs.Encoding.{first_word, encoded_words, code_bytes, IsMeant}
+use Rattle.asm_line.specs.Encoding.{first_word, encoded_words, code_bytes, IsMeant}
 use Rattle.asm_text.specs.Jumps.{LeadsToLabel, JumpsReachLabels, LabelsAreEven}
 use Rattle.asm_text.specs.internal.Kept.{IsSource}
 use Rattle.asm_text.specs.internal.Known.{IsKnown}
@@ -31,15 +31,16 @@ use Rattle.asm_text.specs.Parts.{SectionValue, SymbolValue, UnitValue, kept_size
 use Rattle.asm_text.specs.Places.{StandsAt, Writes, CodeIsWritten, WordsAreWritten}
 use Rattle.asm_text.specs.Placing.{Placed, nowhere, spot_of, last_head, placed, unrefused, placed_from}
 use Rattle.asm_text.specs.Source.{SourceRead, source_read}
-use Rattle.asm_text.specs.Statements.{statement_size, kind_takes}
+use Rattle.asm_line.specs.Statements.{statement_size, kind_takes}
 use Rattle.asm_text.specs.Symbols.{is_global_name, local_labels, once, once_by, below, order_of, symbol_number, symbol_by}
 use Rattle.asm_text.proofs.EmittingLemmas.{next_place}
 use Rattle.asm_text.proofs.EvenLemmas.{AreEven, IsEvenPlaced, source_even, nowhere_even, even_head, placed_even, all_even}
-use Rattle.asm_text.proofs.JumpLemmas.{jump_means, jumps_lead}
+use Rattle.asm_line.proofs.JumpLemmas.{jump_means}
+use Rattle.asm_text.proofs.JumpLemmas.{jumps_lead}
 use Rattle.asm_text.proofs.KeptLemmas.{source_kept}
 use Rattle.asm_text.proofs.LockLemmas.{Agree, Shape, SomeLast, same_number, last_there, ok_is, ok_or_is, IsTaken, taken, is_opened, agree_more}
-use Rattle.asm_text.proofs.MeaningLemmas.{words_are_meant}
-use Rattle.asm_text.proofs.WordLemmas.{option_map_some}
+use Rattle.asm_line.proofs.MeaningLemmas.{words_are_meant}
+use Rattle.asm_line.proofs.WordLemmas.{option_map_some}
 use Rattle.asm_text.proofs.OrderLemmas.{length_below, below_at}
 use Rattle.asm_text.proofs.PlacedLemmas.{or_not}
 use Rattle.asm_text.proofs.SymbolLemmas.{each_symbol, symbol_has}

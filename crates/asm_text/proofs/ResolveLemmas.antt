@@ -1,7 +1,7 @@
 -- What the code found of the names is what the definitions say of them.
 use Rattle.std.proofs.Common.{ℕ, ◌≡◌, Bool, not, List, [], get_or, ap, ◌∙◌}
 use Rattle.std.specs.Prelude.{fold, filter}
-use Rattle.asm_text.specs.declared.statement.Statement.{Statement}
+use Rattle.asm_line.specs.declared.statement.Statement.{Statement}
 use Rattle.asm_text.specs.internal.Numbering.{AreGlobals, AreBelow}
 use Rattle.asm_text.specs.Placing.{Placed}
 use Rattle.asm_text.specs.Symbols.{is_global_name, once, below, order_of}

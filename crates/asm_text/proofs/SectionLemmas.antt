@@ -3,20 +3,20 @@ use Rattle.std.proofs.Common.{ℕ, suc, ◌≡◌, ◌+◌, ◌-◌, List, [], �
 use Rattle.std.specs.Prelude.{slice_get, All}
 use Rattle.std.proofs.lemmas.List.{append-nil, map-append}
 use Rattle.std.proofs.lemmas.List.Elements.{All-cons, All-nil}
-use Rattle.asm_text.specs.declared.statement.Statement.{Statement}
-use Rattle.asm_text.specs.declared.statement.Statement.TheVariants.{Section, Label, Global, Word, Space, Jump, Code}
+use Rattle.asm_line.specs.declared.statement.Statement.{Statement}
+use Rattle.asm_line.specs.declared.statement.Statement.TheVariants.{Section, Label, Global, Word, Space, Jump, Code}
 use Rattle.asm_text.specs.declared.unit.AsmFault.{AsmFault}
 use Rattle.asm_text.specs.declared.unit.AsmFault.TheVariants.{Line as LineFault}
-use Rattle.asm_text.specs.declared.unit.SectionKind.{SectionKind}
+use Rattle.asm_line.specs.declared.statement.SectionKind.{SectionKind}
 use Rattle.asm_text.specs.Assembly.{name_count, meanings, assembled}
 use Rattle.asm_text.specs.Emission.{Meanings, Emitted, nothing, emitted, emitted_from, statement_bytes, with_statement, in_last, grown}
-use Rattle.asm_text.specs.Encoding.{code_bytes}
+use Rattle.asm_line.specs.Encoding.{code_bytes}
 use Rattle.asm_text.specs.internal.Emitted.{newest_section}
 use Rattle.asm_text.specs.Parts.{SectionValue, UnitValue}
 use Rattle.asm_text.specs.Placing.{Placed, nowhere, spot_of, placed, placed_from}
 use Rattle.asm_text.specs.Sections.{Line, PutsBytes, begins_section, up_to_section, by_section, bytes_in_order, SectionsAreLines}
 use Rattle.asm_text.specs.Source.{SourceRead, source_read}
-use Rattle.asm_text.specs.Statements.{statement_size}
+use Rattle.asm_line.specs.Statements.{statement_size}
 use Rattle.asm_text.proofs.EmittingLemmas.{next_place}
 use Rattle.asm_text.proofs.LockLemmas.{Agree, last_there, ok_is, ok_or_is, jump_size, IsTaken, taken, IsOpened, is_opened, agree_more}
 use Rattle.asm_text.proofs.ReachLemmas.{next_line, accepted}

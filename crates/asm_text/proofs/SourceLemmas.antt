@@ -2,8 +2,8 @@
 use Rattle.std.proofs.Common.{ℕ, ◌≡◌, ◌+◌, ◌≤◌, List, [], ◌∷◌, ◌++◌, length, Some, ap, sym, ◌∙◌, length-append, arith}
 use Rattle.texts.specs.Lines.{ended_lines, unended}
 use Rattle.asm_text.specs.declared.reading.Tables.{Tables as TablesKept}
-use Rattle.asm_text.specs.declared.statement.Statement.{Statement}
-use Rattle.asm_text.specs.Lines.{statement_of}
+use Rattle.asm_line.specs.declared.statement.Statement.{Statement}
+use Rattle.asm_line.specs.Lines.{statement_of}
 use Rattle.asm_text.specs.Names.{no_tables, tables_after}
 use Rattle.asm_text.specs.internal.Read.{tables_value, AreIndexed}
 use Rattle.asm_text.specs.Source.{source_by, source_from, source_read, more}

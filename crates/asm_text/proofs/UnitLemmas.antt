@@ -12,18 +12,19 @@ use Rattle.asm_text.specs.declared.placing.Head.{Head}
 use Rattle.asm_text.specs.declared.placing.Spot.{Spot}
 use Rattle.asm_text.specs.declared.unit.AsmFault.{AsmFault}
 use Rattle.asm_text.specs.declared.unit.AsmRelocation.{AsmRelocation}
-use Rattle.asm_text.specs.declared.statement.Field.TheVariants.{Name}
-use Rattle.asm_text.specs.declared.statement.Statement.{Statement}
-use Rattle.asm_text.specs.declared.statement.Statement.TheVariants.{Section, Label, Global, Word, Space, Jump, Code}
+use Rattle.asm_line.specs.declared.statement.Field.TheVariants.{Name}
+use Rattle.asm_line.specs.declared.statement.Statement.{Statement}
+use Rattle.asm_line.specs.declared.statement.Statement.TheVariants.{Section, Label, Global, Word, Space, Jump, Code}
 use Rattle.asm_text.specs.Assembly.{name_count, symbol_order, meanings, unit_for}
 use Rattle.asm_text.specs.Emission.{Meanings, Emitted, nothing, emitted, emitted_from, statement_bytes, relocation_at, relocation_if, statement_relocations, second_word, with_statement, in_last, grown}
 use Rattle.asm_text.specs.internal.Emitted.{newest_section, AreNames}
 use Rattle.asm_text.specs.internal.Kept.{IsSource}
-use Rattle.asm_text.specs.Parts.{SectionValue, SymbolValue, is_name, IsSectionValue, IsSymbolValue, IsAsmRelocation, IsUnit}
+use Rattle.asm_text.specs.Parts.{SectionValue, SymbolValue, IsSectionValue, IsSymbolValue, IsAsmRelocation, IsUnit}
+use Rattle.asm_line.specs.Identifiers.{is_name}
 use Rattle.asm_text.specs.internal.Placed.{IsPlaced, names_in}
 use Rattle.asm_text.specs.Placing.{Placed, nowhere, spot_of, placed_from, unrefused}
 use Rattle.asm_text.specs.Source.{SourceRead}
-use Rattle.asm_text.specs.Statements.{statement_size}
+use Rattle.asm_line.specs.Statements.{statement_size}
 use Rattle.asm_text.specs.Symbols.{is_global_name, local_labels, once, once_by, below, order_of, symbol_by, symbol_number, symbol_numbers}
 use Rattle.asm_text.proofs.EmittingLemmas.{all_agree, small_sections, some_head}
 use Rattle.asm_text.proofs.LockLemmas.{Agree, Shape, shape_of, head_shape, same_number, ok_is, is_opened}

@@ -6,18 +6,18 @@ use Rattle.insn_decode.specs.declared.insn.Insn.TheVariants.{Two, One, Jump as J
 use Rattle.insn_decode.specs.declared.insn.Operand.{Operand}
 use Rattle.insn_decode.specs.Code.{words_of as words_in}
 use Rattle.asm_text.specs.declared.placing.Spot.{Spot}
-use Rattle.asm_text.specs.declared.statement.Field.{Field}
-use Rattle.asm_text.specs.declared.statement.Field.TheVariants.{Number, Name}
-use Rattle.asm_text.specs.declared.statement.Statement.{Statement}
-use Rattle.asm_text.specs.declared.statement.Statement.TheVariants.{Section, Label, Global, Word, Space, Jump, Code}
+use Rattle.asm_line.specs.declared.statement.Field.{Field}
+use Rattle.asm_line.specs.declared.statement.Field.TheVariants.{Number, Name}
+use Rattle.asm_line.specs.declared.statement.Statement.{Statement}
+use Rattle.asm_line.specs.declared.statement.Statement.TheVariants.{Section, Label, Global, Word, Space, Jump, Code}
 use Rattle.asm_text.specs.declared.unit.AsmFault.{AsmFault}
 use Rattle.asm_text.specs.declared.unit.AsmFault.TheVariants.{Line, Place, NoLabel, Far}
 use Rattle.asm_text.specs.declared.unit.AsmRelocation.{AsmRelocation}
-use Rattle.asm_text.specs.declared.unit.SectionKind.{SectionKind}
-use Rattle.asm_text.specs.Encoding.{code_bytes}
+use Rattle.asm_line.specs.declared.statement.SectionKind.{SectionKind}
+use Rattle.asm_line.specs.Encoding.{code_bytes}
 use Rattle.asm_text.specs.Parts.{SectionValue}
 use Rattle.asm_text.specs.Placing.{spot_of, unrefused}
-use Rattle.asm_text.specs.Statements.{statement_size}
+use Rattle.asm_line.specs.Statements.{statement_size}
 
 -- the names of the sections, and of each name where its label stands, and the place of its symbol
 pub record Meanings : Type 0 where

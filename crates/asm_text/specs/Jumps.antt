@@ -4,7 +4,7 @@ use Rattle.insn_decode.specs.declared.insn.Condition.{Condition}
 use Rattle.insn_decode.specs.declared.insn.Insn.TheVariants.{Jump as JumpInsn}
 use Rattle.insn_decode.specs.Means.{Means}
 use Rattle.asm_text.specs.declared.TheConstants.{MAX_SOURCE}
-use Rattle.asm_text.specs.declared.statement.Statement.TheVariants.{Jump}
+use Rattle.asm_line.specs.declared.statement.Statement.TheVariants.{Jump}
 use Rattle.asm_text.specs.Assembly.{assembled}
 use Rattle.sm_words.specs.Bytes.{word_bytes}
 use Rattle.asm_text.specs.Parts.{SectionValue, SymbolValue, UnitValue}

@@ -1,10 +1,6 @@
 pub mod Parts
 pub mod Views
 pub mod Unit
-pub mod Statements
-pub mod Encoding
-pub mod Operands
-pub mod Lines
 pub mod Names
 pub mod Source
 pub mod Placing

@@ -1,10 +1,11 @@
 -- The parts of an object as values, and what they keep.
-use Rattle.std.specs.Prelude.{◌≡◌, ◌≢◌, ℕ, ◌≤◌, ◌<◌, ◌==◌, nat_le, Bool, false, not, ◌&&◌, ◌||◌, List, [], ◌∷◌, length, Option, Some, None, IsTrue, All, AllPairs}
-use Rattle.std.specs.List.{list_all}
-use Rattle.asm_text.specs.declared.unit.SectionKind.{SectionKind}
-use Rattle.asm_text.specs.declared.unit.SectionKind.TheVariants.{Code, Data, Bss}
+use Rattle.std.specs.Prelude.{◌≡◌, ◌≢◌, ℕ, ◌≤◌, ◌<◌, Bool, false, List, length, Option, Some, None, IsTrue, All, AllPairs}
+use Rattle.asm_line.specs.declared.statement.SectionKind.{SectionKind}
+use Rattle.asm_line.specs.declared.statement.SectionKind.TheVariants.{Code, Data, Bss}
 use Rattle.asm_text.specs.declared.unit.AsmRelocation.{AsmRelocation}
-use Rattle.asm_text.specs.declared.TheConstants.{MAX_NAME, MAX_SECTIONS, MAX_SIZE, MAX_ENTRIES}
+use Rattle.asm_line.specs.declared.TheConstants.{MAX_SIZE}
+use Rattle.asm_line.specs.Identifiers.{is_name}
+use Rattle.asm_text.specs.declared.TheConstants.{MAX_SECTIONS, MAX_ENTRIES}
 
 pub record SectionValue : Type 0 where
   pub name : List ℕ
@@ -22,24 +23,6 @@ pub record UnitValue : Type 0 where
   pub sections : List SectionValue
   pub symbols : List SymbolValue
   pub relocations : List AsmRelocation
-
--- ---- names
-
-abbrev pub is_digit : ℕ → Bool
-is_digit b = nat_le 48 b && nat_le b 57
-
--- a letter, a digit, `_` or `.`
-unfoldable pub is_name_byte : ℕ → Bool
-is_name_byte b = (nat_le 97 b && nat_le b 122) || (nat_le 65 b && nat_le b 90) || is_digit b || (b == 95) || (b == 46)
-
--- whether there is a first byte, and it is no digit
-abbrev pub starts_name : List ℕ → Bool
-starts_name [] = false
-starts_name (b ∷ bs) = not (is_digit b)
-
--- 1 to 64 letters, digits, `_` or `.`, no digit first
-unfoldable pub is_name : List ℕ → Bool
-is_name text = starts_name text && nat_le (length text) MAX_NAME && list_all is_name_byte text
 
 -- ---- what is kept
 

@@ -1,12 +1,12 @@
 -- Where the lines of an accepted source stand, and what is written there.
 use Rattle.std.specs.Prelude.{ℕ, ◌≡◌, ◌+◌, List, length, take, drop, flat_map, slice_get, Option, Some, Ok, IsSomeAnd, option_map}
 use Rattle.insn_decode.specs.declared.insn.Insn.{Insn}
-use Rattle.asm_text.specs.declared.statement.Field.{Field}
-use Rattle.asm_text.specs.declared.statement.Statement.TheVariants.{Word, Code}
+use Rattle.asm_line.specs.declared.statement.Field.{Field}
+use Rattle.asm_line.specs.declared.statement.Statement.TheVariants.{Word, Code}
 use Rattle.asm_text.specs.Assembly.{name_count, assembled}
 use Rattle.asm_text.specs.Emission.{field_number}
 use Rattle.sm_words.specs.Bytes.{word_bytes}
-use Rattle.asm_text.specs.Encoding.{encoded_words, IsMeant}
+use Rattle.asm_line.specs.Encoding.{encoded_words, IsMeant}
 use Rattle.asm_text.specs.Parts.{SectionValue, UnitValue}
 use Rattle.asm_text.specs.Placing.{Placed, nowhere, last_head, placed_from}
 use Rattle.asm_text.specs.Source.{SourceRead, source_read}

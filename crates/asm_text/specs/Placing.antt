@@ -1,15 +1,16 @@
 -- Where each section and each label stands, or the first refusal line by line.
 use Rattle.std.specs.Prelude.{ℕ, ◌+◌, ◌-◌, ◌==◌, nat_lt, Bool, if◌then◌else◌, List, [], ◌∷◌, ◌++◌, length, replicate, slice_get, slice_set, slice_index_or, Option, Some, None, is_some, Result, Ok, Err}
 use Rattle.std.specs.List.{list_any}
-use Rattle.asm_text.specs.declared.TheConstants.{MAX_SECTIONS, MAX_LABELS, MAX_SIZE}
+use Rattle.asm_text.specs.declared.TheConstants.{MAX_SECTIONS, MAX_LABELS}
+use Rattle.asm_line.specs.declared.TheConstants.{MAX_SIZE}
 use Rattle.asm_text.specs.declared.unit.AsmFault.{AsmFault}
 use Rattle.asm_text.specs.declared.unit.AsmFault.TheVariants.{Place, Twice, TooMany, Large}
-use Rattle.asm_text.specs.declared.unit.SectionKind.{SectionKind}
+use Rattle.asm_line.specs.declared.statement.SectionKind.{SectionKind}
 use Rattle.asm_text.specs.declared.placing.Head.{Head}
 use Rattle.asm_text.specs.declared.placing.Spot.{Spot}
-use Rattle.asm_text.specs.declared.statement.Statement.{Statement}
-use Rattle.asm_text.specs.declared.statement.Statement.TheVariants.{Section, Label, Global}
-use Rattle.asm_text.specs.Statements.{statement_size, kind_takes}
+use Rattle.asm_line.specs.declared.statement.Statement.{Statement}
+use Rattle.asm_line.specs.declared.statement.Statement.TheVariants.{Section, Label, Global}
+use Rattle.asm_line.specs.Statements.{statement_size, kind_takes}
 
 -- the sections so far, the numbers of the labels in their order, and where the label of each name stands
 pub record Placed : Type 0 where

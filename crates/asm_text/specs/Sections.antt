@@ -1,11 +1,11 @@
 -- What the sections of an accepted source hold, line by line.
 use Rattle.std.specs.Prelude.{ℕ, ◌≡◌, Bool, true, false, List, [], ◌∷◌, length, map, flat_map, if◌then◌else◌, Some, Ok, All}
-use Rattle.asm_text.specs.declared.statement.Statement.{Statement}
-use Rattle.asm_text.specs.declared.statement.Statement.TheVariants.{Section, Word, Jump, Code}
+use Rattle.asm_line.specs.declared.statement.Statement.{Statement}
+use Rattle.asm_line.specs.declared.statement.Statement.TheVariants.{Section, Word, Jump, Code}
 use Rattle.asm_text.specs.Assembly.{assembled}
 use Rattle.asm_text.specs.Emission.{field_number}
 use Rattle.sm_words.specs.Bytes.{word_bytes}
-use Rattle.asm_text.specs.Encoding.{code_bytes}
+use Rattle.asm_line.specs.Encoding.{code_bytes}
 use Rattle.asm_text.specs.Parts.{SectionValue, UnitValue}
 use Rattle.asm_text.specs.Source.{source_read}
 

@@ -2,8 +2,8 @@
 use Rattle.std.specs.Prelude.{ℕ, zero, suc, ◌==◌, Bool, true, false, not, List, [], ◌∷◌, ◌++◌, map, filter, fold, position, slice_get, Option, Some, None, is_some, option_map}
 use Rattle.std.specs.List.{list_any, filter_map}
 use Rattle.asm_text.specs.declared.placing.Spot.{Spot}
-use Rattle.asm_text.specs.declared.statement.Statement.{Statement}
-use Rattle.asm_text.specs.declared.statement.Statement.TheVariants.{Global}
+use Rattle.asm_line.specs.declared.statement.Statement.{Statement}
+use Rattle.asm_line.specs.declared.statement.Statement.TheVariants.{Global}
 use Rattle.asm_text.specs.Parts.{SymbolValue}
 use Rattle.asm_text.specs.Placing.{Placed, spot_of}
 

@@ -5,5 +5,4 @@ pub mod Maps
 pub mod Numbering
 pub mod Placed
 pub mod Read
-pub mod Statements
 pub mod Symbols

@@ -9,17 +9,16 @@ ghost use Rattle.asm_text.specs.internal.Emitted.{meanings_value, emitted_of, ne
 ghost use Rattle.asm_text.specs.internal.Known.{IsBelow, IsKnown, IsNamed, AreKnown, AreNamed};
 ghost use Rattle.asm_text.specs.internal.Placed.{ArePlaced};
 ghost use Rattle.asm_text.specs.internal.Maps.{texts_in};
-ghost use Rattle.asm_text.specs.Parts.{is_name};
-ghost use Rattle.asm_text.specs.Statements.{statement_size};
+ghost use Rattle.asm_line.specs.Identifiers.{is_name};
+ghost use Rattle.asm_line.specs.Statements.{statement_size};
 ghost use Rattle.asm_text.specs.Views.{section_value};
-ghost use Rattle.asm_text.specs.Encoding as encoding;
+ghost use Rattle.asm_line.specs.Encoding as encoding;
 
-use crate::encoding::{first_word, jump_word};
-use crate::operand::string_of;
+use crate::names::string_of;
 use crate::placing::{Spot, statement_size};
-use crate::statement::{Field, Statement};
-use crate::unit::{AsmFault, AsmRelocation, AsmSection, SectionKind};
+use crate::unit::{AsmFault, AsmRelocation, AsmSection};
 use arrayvec::ArrayVec;
+use asm_line::{Field, SectionKind, Statement, first_word, jump_word};
 use insn_decode::{Condition, Insn, Operand};
 use std::alloc::{AllocError, Global};
 

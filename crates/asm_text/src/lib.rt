@@ -5,25 +5,19 @@
 
 mod assembly;
 mod emission;
-mod encoding;
 pub mod laws;
-mod line;
 mod names;
-mod operand;
 mod placing;
 mod reading;
-mod statement;
 mod symbols;
 mod unit;
 
+pub use asm_line::{MAX_NAME, MAX_SIZE, SectionKind};
 pub use assembly::assemble;
-pub use unit::{AsmFault, AsmRelocation, AsmSection, AsmSymbol, AsmUnit, SectionKind};
+pub use unit::{AsmFault, AsmRelocation, AsmSection, AsmSymbol, AsmUnit};
 
 /// The most bytes of a source.
 pub const MAX_SOURCE: usize = 1_048_576;
-
-/// The most bytes of a name.
-pub const MAX_NAME: usize = 64;
 
 /// The most sections of a source.
 pub const MAX_SECTIONS: usize = 256;
@@ -31,13 +25,10 @@ pub const MAX_SECTIONS: usize = 256;
 /// The most labels of a source.
 pub const MAX_LABELS: usize = 4_096;
 
-/// The most bytes of a section.
-pub const MAX_SIZE: u32 = 65_534;
-
 /// The most symbols of a source, and the most relocations.
 pub const MAX_ENTRIES: usize = 1_048_576;
 
 // What the rules say of them: a changed number is refused here.
-const _: () = prove!(MAX_LABELS == 4_096 && MAX_NAME == 64 && MAX_SECTIONS == 256);
+const _: () = prove!(MAX_LABELS == 4_096 && MAX_SECTIONS == 256);
 
-const _: () = prove!(MAX_SIZE == 65_534 && MAX_SOURCE == 1_048_576 && MAX_ENTRIES == 1_048_576);
+const _: () = prove!(MAX_SOURCE == 1_048_576 && MAX_ENTRIES == 1_048_576);

@@ -1,6 +1,7 @@
 //! Names by number.
 
-ghost use Rattle.std.specs.Prelude.{◌≡◌, List, [], ℕ, Some, OnOk, IfOk, bytes_eq, if◌then◌else◌};
+ghost use Rattle.std.specs.Prelude.{◌≡◌, List, [], ℕ, true, Some, OnOk, IfOk, bytes_eq, string_bytes, if◌then◌else◌};
+ghost use Rattle.asm_line.specs.Identifiers.{is_name};
 ghost use Rattle.asm_text.specs.Names as spec;
 ghost use Rattle.asm_text.specs.internal.Maps.{map_value, IsIndexed, texts_of, texts_in};
 
@@ -66,4 +67,15 @@ fn insert<'a>(
 {
     numbers.insert(name, number)?;
     Ok(())
+}
+
+/// A name as a string.
+pub fn string_of(alloc: Global, name: &[u8]) -> Result<String, AllocError>
+    requires { is_name name.now ≡ true }
+    ensures { IfOk result (λ text. string_bytes text ≡ name.now) }
+{
+    match str::from_utf8(name) {
+        Ok(text) => String::from_str(alloc, text),
+        Err(_) => unreachable!(),
+    }
 }

@@ -4,11 +4,11 @@ ghost use Rattle.std.specs.Prelude.{◌≡◌, ◌≢◌, ◌<◌, ◌≤◌, �
 ghost use Rattle.asm_text.specs.Placing as spec;
 ghost use Rattle.asm_text.specs.internal.Placed.{placed_of, AreSmall, IsPlaced};
 ghost use Rattle.asm_text.specs.internal.Known.{IsKnown, AreKnown};
-ghost use Rattle.asm_text.specs.Statements as statements;
+ghost use Rattle.asm_line.specs.Statements as statements;
 
-use crate::statement::Statement;
-use crate::unit::{AsmFault, SectionKind};
-use crate::{MAX_LABELS, MAX_SECTIONS, MAX_SIZE};
+use crate::unit::AsmFault;
+use crate::{MAX_LABELS, MAX_SECTIONS};
+use asm_line::{MAX_SIZE, SectionKind, Statement};
 use std::alloc::{AllocError, Global};
 
 /// A section: the number of its name, its kind, and its bytes so far.

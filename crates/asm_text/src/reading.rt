@@ -5,13 +5,12 @@ ghost use Rattle.asm_text.specs.internal.Maps.{IsIndexed, texts_of};
 ghost use Rattle.asm_text.specs.Names as numbering;
 ghost use Rattle.asm_text.specs.internal.Read.{tables_value, AreIndexed, source_value};
 ghost use Rattle.asm_text.specs.Source as spec;
-ghost use Rattle.asm_text.specs.internal.Statements.{with_texts, field_with_text};
+ghost use Rattle.asm_line.specs.Renamed.{with_texts};
 ghost use Rattle.std.specs.Option.{option_copied};
 
 use crate::MAX_SOURCE;
-use crate::line::statement_of;
 use crate::names::Names;
-use crate::statement::{Field, Statement};
+use asm_line::{Field, Statement, statement_of};
 use std::alloc::{AllocError, Global};
 use texts::split_line;
 
@@ -57,10 +56,10 @@ fn number_field<'a>(
     requires indexed { IsIndexed names.old }
     ensures number { IfOk result (λ s. (t : List (List ℕ)) →
         s ≡ numbering.numbered (record { sections = t; names = texts_of names.old })
-        (Statement.Word (field_with_text field.entry))) }
+        (with_texts (Statement.Word field.entry))) }
     ensures noted { OnOk result ((t : List (List ℕ)) → record { sections = t; names = texts_of names.new }
         ≡ numbering.tables_after (record { sections = t; names = texts_of names.old })
-        (Statement.Word (field_with_text field.entry))) }
+        (with_texts (Statement.Word field.entry))) }
     ensures indexed { OnOk result (IsIndexed names.new) }
 {
     match field {

@@ -1,7 +1,7 @@
 //! The symbols of a source.
 
 ghost use Rattle.std.specs.Prelude.{◌≡◌, ◌<◌, ◌+◌, ◌^◌, [], ◌≤◌, List, ℕ, Some, length, filter, fold, slice_index_or, true, false, OnOk, IfOk, IfSome};
-ghost use Rattle.asm_text.specs.Parts.{is_name};
+ghost use Rattle.asm_line.specs.Identifiers.{is_name};
 ghost use Rattle.asm_text.specs.internal.Known.{AreKnown};
 ghost use Rattle.asm_text.specs.internal.Emitted.{AreNames};
 ghost use Rattle.asm_text.specs.internal.Maps.{texts_in};
@@ -12,10 +12,10 @@ ghost use Rattle.asm_text.specs.Symbols as spec;
 ghost use Rattle.asm_text.specs.internal.Symbols as inner;
 ghost use Rattle.asm_text.specs.Views.{symbol_value, symbol_values};
 
-use crate::operand::string_of;
+use crate::names::string_of;
 use crate::placing::Spot;
-use crate::statement::Statement;
 use crate::unit::AsmSymbol;
+use asm_line::Statement;
 use std::alloc::{AllocError, Global};
 
 /// The names of the symbols by their numbers, and of each name the place of its symbol.

@@ -4,16 +4,8 @@ ghost use Rattle.asm_text.specs.declared.unit.AsmFault.TheVariants.{NoMemory};
 ghost use Rattle.asm_text.specs.Parts.{IsUnit};
 ghost use Rattle.asm_text.specs.Views.{section_values, symbol_values};
 
+use asm_line::SectionKind;
 use std::alloc::{AllocError, AllocFailed};
-
-/// What a section holds.
-#[derive(Clone, Copy, Debug, PartialEq, Eq)]
-pub enum SectionKind {
-    Code,
-    Data,
-    /// Zeros, which take no room in a file.
-    Bss,
-}
 
 /// A section: `bytes` has its `size` bytes, and none where it is `Bss`.
 #[derive(Debug, Drop)]

@@ -9,8 +9,8 @@ use Rattle.elf_objects.specs.declared.section.Header.{Header}
 use Rattle.elf_objects.specs.Header.{section_count, name_table}
 use Rattle.elf_objects.specs.Section.{header_of, content, ends_past, is_absent, is_loaded, is_loaded_header, is_alignment, section_fault, section_faults, compressed_fault, compressed_faults, rel_fault, rel_faults}
 use Rattle.elf_objects.specs.Names.{end_in, name_end, name_fault, name_faults}
-use Rattle.asm_text.specs.declared.unit.SectionKind.{SectionKind}
-use Rattle.asm_text.specs.declared.unit.SectionKind.TheVariants.{Code, Data, Bss}
+use Rattle.asm_line.specs.declared.statement.SectionKind.{SectionKind}
+use Rattle.asm_line.specs.declared.statement.SectionKind.TheVariants.{Code, Data, Bss}
 use Rattle.asm_text.specs.Parts.{SectionValue, UnitValue, IsUnit, IsSectionValue, kept_size}
 use Rattle.obj_write.specs.Strings.{string_table, name_at}
 use Rattle.obj_write.specs.Sections.{FileSection, content_at}

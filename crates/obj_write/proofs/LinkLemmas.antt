@@ -11,7 +11,7 @@ use Rattle.elf_objects.proofs.PassLemmas.{first_below_found}
 use Rattle.elf_objects.specs.declared.section.Header.{Header}
 use Rattle.elf_objects.specs.Header.{section_count, name_table}
 use Rattle.elf_objects.specs.Section.{header_of, is_loaded_header, is_kind, index_if, is_this, symbol_table, is_bad_symbol_table, is_kept_table, is_bad_kept_table, is_bad_link, link_fault, link_faults, name_table_fault}
-use Rattle.asm_text.specs.declared.unit.SectionKind.{SectionKind}
+use Rattle.asm_line.specs.declared.statement.SectionKind.{SectionKind}
 use Rattle.asm_text.specs.Parts.{UnitValue, IsUnit}
 use Rattle.obj_write.specs.Symbols as own
 use Rattle.obj_write.specs.Relocations.{relocation_table}

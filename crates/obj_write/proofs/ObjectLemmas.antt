@@ -9,7 +9,7 @@ use Rattle.elf_objects.proofs.PassLemmas.{each_below_more, each_below_zero, at_e
 use Rattle.asm_text.specs.declared.unit.AsmSection.{AsmSection}
 use Rattle.asm_text.specs.declared.unit.AsmRelocation.{AsmRelocation}
 use Rattle.asm_text.specs.declared.unit.AsmUnit.{AsmUnit}
-use Rattle.asm_text.specs.declared.unit.SectionKind.TheVariants.{Bss}
+use Rattle.asm_line.specs.declared.statement.SectionKind.TheVariants.{Bss}
 use Rattle.asm_text.specs.Parts.{SectionValue, UnitValue}
 use Rattle.asm_text.specs.Views.{section_value}
 use Rattle.asm_text.specs.Unit.{unit_of}

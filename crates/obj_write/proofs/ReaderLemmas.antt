@@ -10,8 +10,8 @@ use Rattle.elf_objects.specs.Header.{name_table}
 use Rattle.elf_objects.specs.Section.{header_of, content, content_span}
 use Rattle.elf_objects.specs.Names.{end_in, name_end, name_span, section_of}
 use Rattle.elf_objects.proofs.ZeroLemmas.{name_long}
-use Rattle.asm_text.specs.declared.unit.SectionKind.{SectionKind}
-use Rattle.asm_text.specs.declared.unit.SectionKind.TheVariants.{Code, Data, Bss}
+use Rattle.asm_line.specs.declared.statement.SectionKind.{SectionKind}
+use Rattle.asm_line.specs.declared.statement.SectionKind.TheVariants.{Code, Data, Bss}
 use Rattle.asm_text.specs.Parts.{SectionValue, UnitValue, IsUnit, IsSectionValue, kept_size}
 use Rattle.obj_write.specs.Strings.{terminated, string_table, name_at}
 use Rattle.obj_write.specs.Sections.{content_at}

@@ -2,8 +2,8 @@
 use Rattle.std.specs.Prelude.{ℕ, ◌+◌, List, [], ◌∷◌, ◌++◌, length, map, codes, replicate}
 use Rattle.std.specs.List.{flat_map, enumerate_from}
 use Rattle.elf_objects.specs.Numbers.{file_header_size, relocatable, msp430, current_version, class_32, low_byte_first, section_header_size, progbits, symtab, strtab, rela, nobits, write_flag, alloc_flag, execute_flag, symbol_size, relocation_size}
-use Rattle.asm_text.specs.declared.unit.SectionKind.{SectionKind}
-use Rattle.asm_text.specs.declared.unit.SectionKind.TheVariants.{Code, Data, Bss}
+use Rattle.asm_line.specs.declared.statement.SectionKind.{SectionKind}
+use Rattle.asm_line.specs.declared.statement.SectionKind.TheVariants.{Code, Data, Bss}
 use Rattle.asm_text.specs.Parts.{SectionValue, UnitValue}
 use Rattle.obj_write.specs.declared.sections.Head.{Head}
 use Rattle.obj_write.specs.Bytes.{half_bytes, long_bytes}

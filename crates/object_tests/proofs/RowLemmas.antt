@@ -3,7 +3,8 @@ use Rattle.std.proofs.Common.{◌≡◌, ◌≢◌, ℕ, ◌<◌, List, [], ◌�
 use Rattle.std.specs.List.{AllPairs}
 use Rattle.std.proofs.lemmas.List.Elements.{All-nil, All-cons}
 use Rattle.std.proofs.lemmas.List.Kept.{AllPairs-cons}
-use Rattle.asm_text.specs.Parts.{SectionValue, SymbolValue, IsUnit, IsSectionValue, IsSymbolValue, IsAsmRelocation, is_name, is_name_byte}
+use Rattle.asm_text.specs.Parts.{SectionValue, SymbolValue, IsUnit, IsSectionValue, IsSymbolValue, IsAsmRelocation}
+use Rattle.asm_line.specs.Identifiers.{is_name, is_name_byte}
 use Rattle.object_tests.specs.internal.Rows.{text_value, here_value, main_value}
 
 no_pairs : {X : Type 0} (R : X → X → Type 0) → AllPairs R []

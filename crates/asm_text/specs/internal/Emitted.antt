@@ -1,11 +1,12 @@
 -- What the code's emission stands for.
 use Rattle.std.specs.Prelude.{ℕ, ◌≡◌, ◌+◌, ◌-◌, ◌≤◌, List, length, slice_get, Option, Some, true, All}
-use Rattle.asm_text.specs.declared.TheConstants.{MAX_SIZE}
+use Rattle.asm_line.specs.declared.TheConstants.{MAX_SIZE}
 use Rattle.asm_text.specs.declared.emission.Meanings.{Meanings as MeaningsKept}
 use Rattle.asm_text.specs.declared.emission.Emission.{Emission}
 use Rattle.asm_text.specs.Emission.{Meanings, Emitted}
 use Rattle.asm_text.specs.internal.Maps.{texts_in}
-use Rattle.asm_text.specs.Parts.{SectionValue, is_name}
+use Rattle.asm_text.specs.Parts.{SectionValue}
+use Rattle.asm_line.specs.Identifiers.{is_name}
 use Rattle.asm_text.specs.Views.{section_values}
 
 abbrev pub meanings_value : MeaningsKept → Meanings

@@ -1,9 +1,9 @@
 -- What the statements of a source keep: their names have numbers below those of the tables.
 use Rattle.std.specs.Prelude.{ℕ, ◌<◌, ◌≤◌, Option, Some, None, All, List}
-use Rattle.asm_text.specs.declared.TheConstants.{MAX_SIZE}
-use Rattle.asm_text.specs.declared.statement.Field.TheVariants.{Number, Name}
-use Rattle.asm_text.specs.declared.statement.Statement.{Statement}
-use Rattle.asm_text.specs.declared.statement.Statement.TheVariants.{Section, Label, Global, Word, Space, Jump, Code}
+use Rattle.asm_line.specs.declared.TheConstants.{MAX_SIZE}
+use Rattle.asm_line.specs.declared.statement.Field.TheVariants.{Number, Name}
+use Rattle.asm_line.specs.declared.statement.Statement.{Statement}
+use Rattle.asm_line.specs.declared.statement.Statement.TheVariants.{Section, Label, Global, Word, Space, Jump, Code}
 
 abbrev pub IsBelow : ℕ → Option ℕ → Type 0
 IsBelow n None = Unit {0}

@@ -1,6 +1,6 @@
 -- The places of symbols by the numbers of their names.
 use Rattle.std.specs.Prelude.{ℕ, ◌≡◌, ◌<◌, Bool, false, List, length, Option, slice_index_or, All}
-use Rattle.asm_text.specs.declared.statement.Statement.{Statement}
+use Rattle.asm_line.specs.declared.statement.Statement.{Statement}
 use Rattle.asm_text.specs.Symbols.{symbol_number, is_global_name}
 
 -- of each name the place of its symbol

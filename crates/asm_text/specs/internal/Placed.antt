@@ -1,7 +1,8 @@
 -- What the code's layout stands for, and what it keeps.
 use Rattle.std.specs.Prelude.{ℕ, ◌≡◌, ◌≢◌, ◌<◌, ◌≤◌, length, List, map, All, AllPairs, Some, Ok}
-use Rattle.asm_text.specs.declared.statement.Statement.{Statement}
-use Rattle.asm_text.specs.declared.TheConstants.{MAX_SECTIONS, MAX_LABELS, MAX_SIZE}
+use Rattle.asm_line.specs.declared.statement.Statement.{Statement}
+use Rattle.asm_text.specs.declared.TheConstants.{MAX_SECTIONS, MAX_LABELS}
+use Rattle.asm_line.specs.declared.TheConstants.{MAX_SIZE}
 use Rattle.asm_text.specs.declared.placing.Head.{Head}
 use Rattle.asm_text.specs.declared.placing.Spot.{Spot}
 use Rattle.asm_text.specs.declared.placing.Layout.{Layout}

@@ -1,6 +1,6 @@
 -- The parts of a worked object.
 use Rattle.std.specs.Prelude.{true, false, [], ◌∷◌, Some, codes}
-use Rattle.asm_text.specs.declared.unit.SectionKind.TheVariants.{Code}
+use Rattle.asm_line.specs.declared.statement.SectionKind.TheVariants.{Code}
 use Rattle.asm_text.specs.Parts.{SectionValue, SymbolValue}
 
 abbrev pub text_value : SectionValue

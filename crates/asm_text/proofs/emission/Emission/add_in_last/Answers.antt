@@ -2,7 +2,7 @@ use Rattle.std.proofs.Common.{ℕ, List, ◌≡◌, ◌+◌, ◌≤◌, ◌<◌,
 use Rattle.asm_text.specs.declared.unit.AsmSection.{AsmSection}
 use Rattle.asm_text.specs.Emission.{grown}
 use Rattle.asm_text.specs.internal.Emitted.{emitted_of, meanings_value}
-use Rattle.asm_text.specs.Statements.{statement_size}
+use Rattle.asm_line.specs.Statements.{statement_size}
 use Rattle.asm_text.specs.Views.{section_value}
 use Rattle.asm_text.proofs.EmissionLemmas.{last_section, index_is, same_at, sections_set, in_last_ok, in_last_err}
 use Rattle.asm_text.proofs.emission.Emission.add_in_last.Goals as goal

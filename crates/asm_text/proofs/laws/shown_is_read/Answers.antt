@@ -1,6 +1,0 @@
-use Rattle.asm_text.proofs.DecodedLemmas.{words_come_back}
-use Rattle.asm_text.proofs.ShownLemmas.{shown_is_read}
-use Rattle.asm_text.proofs.laws.shown_is_read.Goals as goal
-
-pub returns : goal.returns
-returns c = record { read = shown_is_read; words = words_come_back }
