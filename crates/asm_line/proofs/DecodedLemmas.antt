@@ -6,7 +6,7 @@ use Rattle.insn_decode.specs.declared.insn.Insn.{Insn}
 use Rattle.insn_decode.specs.Code.{words_of as words_in, width_of}
 use Rattle.insn_decode.specs.Means.{two_code, one_code, condition_code, IsPlain, Source, register, symbolic, absolute, indexed, indirect, increment, immediate, Destination, to_register, to_symbolic, to_absolute, to_indexed, Means, format_one, format_two, jump, return, unit}
 use Rattle.insn_decode.proofs.Table.{insn_means}
-use Rattle.asm_line.specs.Encoding.{fields, plain_fields, source_fields, dest_fields, byte_flag, first_word, extension, encoded_words}
+use Rattle.asm_line.specs.Encoding.{fields, plain_fields, source_fields, dest_fields, byte_flag, leading_word, extension, encoded_words}
 use Rattle.asm_line.specs.Laws.{WordsComeBack}
 use Rattle.asm_line.proofs.JumpLemmas.{bits_back}
 
@@ -68,7 +68,7 @@ one_extension a w1 w2 (inl e) = rw (e.0, e.1) refl
 one_extension a w1 w2 (inr e) = rw (e.0, e.1) refl
 
 means_back : {w0 w1 w2 n : ℕ} {insn : Insn} → Means w0 w1 w2 insn n → encoded_words insn ≡ Some (take n (w0 ∷ w1 ∷ w2 ∷ []))
-unfolding first_word
+unfolding leading_word
 means_back {w0} {w1} {w2} (format_one op s d c source dest) =
     let a = source_back source (omega arith) in
     let b = dest_back dest (omega arith) in

@@ -9,7 +9,7 @@ use Rattle.insn_decode.specs.declared.insn.Insn.TheVariants.{Jump}
 use Rattle.insn_decode.specs.Code.{offset_of}
 use Rattle.insn_decode.specs.Means.{condition_code, Means, jump}
 use Rattle.insn_decode.proofs.Table.{condition_code_most}
-use Rattle.asm_line.specs.Encoding.{offset_bits, first_word}
+use Rattle.asm_line.specs.Encoding.{offset_bits, leading_word}
 use Rattle.asm_line.proofs.WordLemmas.{option_map_some}
 
 record HasBits (w c bits : ℕ) : Type 0 where
@@ -45,8 +45,8 @@ bits_back n low = by (nat_lt n 512) refl
         let near : nat_lt (1023 - n) 512 ≡ true = grind (arith, nat_tests) in
         ap offset_bits below ∙ (ap (λ c. cond c (Some (1023 - (1023 - n))) None) near ∙ ap Some (let same : 1023 - (1023 - n) ≡ n = omega arith in same))
 
-pub jump_means : (c : Condition) (offset : ℤ) (w0 w1 w2 : ℕ) → first_word (Jump c offset) ≡ Some w0 → Means w0 w1 w2 (Jump c offset) 1
-unfolding first_word
+pub jump_means : (c : Condition) (offset : ℤ) (w0 w1 w2 : ℕ) → leading_word (Jump c offset) ≡ Some w0 → Means w0 w1 w2 (Jump c offset) 1
+unfolding leading_word
 jump_means c offset w0 w1 w2 e = option_map_some (λ bits. 0x2000 + condition_code c * 1024 + bits) (offset_bits offset) w0 e (λ bits is same.
     let m = bits_mean offset bits is in
     let b = has_bits (condition_code c) bits (condition_code_most c) m.0 in

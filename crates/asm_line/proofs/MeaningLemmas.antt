@@ -15,7 +15,7 @@ use Rattle.insn_decode.specs.declared.insn.Insn.TheVariants.{Two, One, Jump, Ret
 use Rattle.insn_decode.specs.Code.{words_of as words_in, length_of, width_of, one_fits}
 use Rattle.insn_decode.specs.Means.{two_code, one_code, Means, IsPlain, Source, register, symbolic, absolute, indexed, indirect, increment, immediate, four, eight, nought, one, two, all_ones, Destination, to_register, to_symbolic, to_absolute, to_indexed, format_one, format_two, return, unit}
 use Rattle.asm_line.specs.declared.encoding.OperandFields.{OperandFields}
-use Rattle.asm_line.specs.Encoding.{plain_fields, constant_fields, source_fields, dest_fields, byte_flag, first_word, extension, extensions}
+use Rattle.asm_line.specs.Encoding.{plain_fields, constant_fields, source_fields, dest_fields, byte_flag, leading_word, extension, extensions}
 use Rattle.asm_line.specs.Laws.{WordsAreMeant}
 use Rattle.asm_line.proofs.JumpLemmas.{jump_means}
 use Rattle.asm_line.proofs.WordLemmas.{option_map_some}
@@ -199,8 +199,8 @@ one_means op w a f w1 w2 ha fits e =
     subst (λ (v : Width). Means w0 w1 w2 (One op v a) (1 + words_in a)) width
     (format_two op a has.form has.op_is source (subst (λ (v : Width). one_fits op v a ≡ true) (sym width) fits))
 
-first_means : (insn : Insn) (w0 w1 w2 : ℕ) → first_word insn ≡ Some w0 → extensions insn ≡ take (length (extensions insn)) (w1 ∷ w2 ∷ []) → Means w0 w1 w2 insn (length_of insn)
-unfolding first_word
+first_means : (insn : Insn) (w0 w1 w2 : ℕ) → leading_word insn ≡ Some w0 → extensions insn ≡ take (length (extensions insn)) (w1 ∷ w2 ∷ []) → Means w0 w1 w2 insn (length_of insn)
+unfolding leading_word
 first_means (Two op w s d) w0 w1 w2 e h = option_and_then_some _ (source_fields s) w0 e (λ f i k. option_and_then_some _ (dest_fields d) w0 k (λ g j l.
     subst (λ v. Means v w1 w2 (Two op w s d) (1 + words_in s + words_in d)) (same_Some _ w0 l) (two_means op w s d f g w1 w2 (source_is s f i) (dest_is d g j) h)))
 first_means (One op w a) w0 w1 w2 e h = option_and_then_some _ (source_fields a) w0 e (λ f i k.
@@ -211,6 +211,6 @@ first_means Reti w0 w1 w2 e h = return (sym (same_Some 0x1300 w0 e))
 first_means (UnitOp name) w0 w1 w2 e h = unit name (sym (same_Some _ w0 e))
 
 pub words_are_meant : WordsAreMeant
-words_are_meant insn words e w0 w1 w2 h = option_map_some (λ word. word ∷ extensions insn) (first_word insn) words e (λ word is same.
+words_are_meant insn words e w0 w1 w2 h = option_map_some (λ word. word ∷ extensions insn) (leading_word insn) words e (λ word is same.
     let whole : word ∷ extensions insn ≡ w0 ∷ take (length (extensions insn)) (w1 ∷ w2 ∷ []) = subst (λ ws. ws ≡ take (length ws) (w0 ∷ w1 ∷ w2 ∷ [])) (sym same) h in
     first_means insn w0 w1 w2 (is ∙ ap (λ ws. Some (get_or ws 0 0)) whole) (ap (drop 1) whole))

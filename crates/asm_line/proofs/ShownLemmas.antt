@@ -34,7 +34,7 @@ use Rattle.insn_decode.proofs.FormFacts.{decoded_form}
 use Rattle.insn_decode.specs.Text.{two_name, one_name, suffix_of, hex_text, operand_text, insn_text}
 use Rattle.asm_line.specs.declared.statement.Field.TheVariants.{Number}
 use Rattle.asm_line.specs.declared.statement.Statement.TheVariants.{Code}
-use Rattle.asm_line.specs.Encoding.{extension, extensions, first_word, IsMeant}
+use Rattle.asm_line.specs.Encoding.{extension, extensions, leading_word, IsMeant}
 use Rattle.asm_line.specs.Laws.{ShownIsRead, is_placeless_operand, is_placeless, AreWords}
 use Rattle.texts.specs.Words.{is_space, words}
 use Rattle.asm_line.specs.Lines.{mnemonic_width, base_of, two_op_of, one_op_of, condition_of, by_words, statement_of}
@@ -226,13 +226,13 @@ one_text : (name suffix text : List ℕ) → name ++ suffix ++ codes " " ++ text
 one_text name suffix text = simp append_assoc
 
 two_read : (op : TwoOp) (w : Width) (s d : Operand) (name source dest : List ℕ) → IsTwoName op w name → IsWhole source → IsWhole dest → operand_of source ≡ Some (plain s) → operand_of dest ≡ Some (plain d)
-    → is_some (first_word (Two op w s d)) ≡ true → statement_of (name ++ 32 ∷ ((source ++ codes ",") ++ 32 ∷ dest)) ≡ Some (Code (Two op w s d) None None)
+    → is_some (leading_word (Two op w s d)) ≡ true → statement_of (name ++ 32 ∷ ((source ++ codes ",") ++ 32 ∷ dest)) ≡ Some (Code (Two op w s d) None None)
 unfolding statement_of
 two_read op w s d name source dest n ps pd rs rd is =
     ap by_words (two_words name (source ++ codes ",") dest n.whole (whole_append source (codes ",") ps refl) pd)
     ∙ rw (n.other, comma_read source, n.width, n.op_is, rs, rd, is) refl
 
-one_read : (op : OneOp) (w : Width) (a : Operand) (name text : List ℕ) → IsOneName op w name → IsWhole text → operand_of text ≡ Some (plain a) → is_some (first_word (One op w a)) ≡ true
+one_read : (op : OneOp) (w : Width) (a : Operand) (name text : List ℕ) → IsOneName op w name → IsWhole text → operand_of text ≡ Some (plain a) → is_some (leading_word (One op w a)) ≡ true
     → statement_of (name ++ 32 ∷ text) ≡ Some (Code (One op w a) None None)
 unfolding statement_of
 one_read op w a name text n p r is =
@@ -249,7 +249,7 @@ words_front (x ∷ xs) ys h =
     let rest = words_front xs ys (All-tail (λ word. word < 65536) x (xs ++ ys) h) in
     (All-cons (λ word. word < 65536) x xs (h 0 0 (omega arith)) rest.0, rest.1)
 
-insn_read : (insn : Insn) (at : ℕ) → HasForm insn → is_some (first_word insn) ≡ true → is_placeless insn ≡ true → AreWords (extensions insn) → statement_of (insn_text insn at) ≡ Some (Code insn None None)
+insn_read : (insn : Insn) (at : ℕ) → HasForm insn → is_some (leading_word insn) ≡ true → is_placeless insn ≡ true → AreWords (extensions insn) → statement_of (insn_text insn at) ≡ Some (Code insn None None)
 unfolding statement_of words
 insn_read (Two op w s d) at form is h small =
     let fixed = and_parts (is_placeless_operand s) (is_placeless_operand d) h in
@@ -273,5 +273,5 @@ insn_read (UnitOp name) at form is h small = unit_read name
 pub shown_is_read : ShownIsRead
 shown_is_read insn at d h small =
     let made = words_come_back d.first d.second d.third insn d.means in
-    let there : is_some (first_word insn) ≡ true = option_map_some (λ word. word ∷ extensions insn) (first_word insn) _ made (λ word is are. ap is_some is) in
+    let there : is_some (leading_word insn) ≡ true = option_map_some (λ word. word ∷ extensions insn) (leading_word insn) _ made (λ word is are. ap is_some is) in
     (insn_read insn at (decoded_form insn d) there h small, subst (λ o. IsSomeAnd o (IsMeant insn)) (sym made) (words_are_meant insn _ made))

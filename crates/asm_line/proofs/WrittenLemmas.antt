@@ -23,7 +23,7 @@ use Rattle.asm_line.specs.declared.statement.Field.{Field}
 use Rattle.asm_line.specs.declared.statement.Field.TheVariants.{Number, Name}
 use Rattle.asm_line.specs.declared.statement.Statement.{Statement}
 use Rattle.asm_line.specs.declared.statement.Statement.TheVariants.{Section, Label, Global, Word, Space, Jump, Code}
-use Rattle.asm_line.specs.Encoding.{first_word}
+use Rattle.asm_line.specs.Encoding.{leading_word}
 use Rattle.texts.specs.Words.{is_space, words}
 use Rattle.asm_line.specs.Lines.{coded, mnemonic_width, base_of, two_op_of, one_op_of, condition_of, one_coded, two_coded, section_kind, section_statement, even_size, space_of, numbered_unit, unit_statement, alone, jump_or_one, with_one, two_operands, with_two, by_words, statement_of}
 use Rattle.asm_line.specs.Operands.{behind, without_ending, name_of, field_by, field_of, register_of, of_field, plain, number_by, immediate_of, indirect_by, indirect_of, indexed_at, indexed_by, without_end, indexed_of, register_operand, absolute_of, behind_or, operand_of}
@@ -133,7 +133,7 @@ operand_some text v e = by (behind (codes "r") text) (behind (codes "#") text) (
 -- ---- statements
 
 coded_some : (insn : Insn) (a b : Option (List ℕ)) (s : Statement (List ℕ)) → NamedOption a → NamedOption b → coded insn a b ≡ Some s → IsWritten s
-coded_some insn a b s x y e = subst IsWritten (cond_some (is_some (first_word insn)) (Code insn a b) s e).1 (x, y)
+coded_some insn a b s x y e = subst IsWritten (cond_some (is_some (leading_word insn)) (Code insn a b) s e).1 (x, y)
 
 one_some : (w : Width) (op : Option OneOp) (text : List ℕ) (s : Statement (List ℕ)) → one_coded w op (operand_of text) ≡ Some s → IsWritten s
 one_some w op text s e = by op (operand_of text) refl e

@@ -59,17 +59,17 @@ offset_bits (pos n) = if nat_lt n 512 then Some n else None
 offset_bits (negsuc n) = if nat_lt n 512 then Some (1023 - n) else None
 
 -- the first word, where the code table has the instruction
-unfoldable pub first_word : Insn → Option ℕ
-first_word (Two op w s d) = do
+unfoldable pub leading_word : Insn → Option ℕ
+leading_word (Two op w s d) = do
   s ← source_fields s
   d ← dest_fields d
   Some (two_code op * 0x1000 + s.register * 256 + d.mode * 128 + byte_flag w * 64 + s.mode * 16 + d.register)
-first_word (One op w a) = do
+leading_word (One op w a) = do
   f ← source_fields a
   if one_fits op w a then Some (0x1000 + one_code op * 128 + byte_flag w * 64 + f.mode * 16 + f.register) else None
-first_word (Jump condition offset) = option_map (λ bits. 0x2000 + condition_code condition * 1024 + bits) (offset_bits offset)
-first_word Reti = Some 0x1300
-first_word (UnitOp name) = Some (0x1380 + unit_code name)
+leading_word (Jump condition offset) = option_map (λ bits. 0x2000 + condition_code condition * 1024 + bits) (offset_bits offset)
+leading_word Reti = Some 0x1300
+leading_word (UnitOp name) = Some (0x1380 + unit_code name)
 
 -- ---- all words
 
@@ -87,7 +87,7 @@ extensions (One op w a) = extension a
 extensions _ = []
 
 abbrev pub encoded_words : Insn → Option (List ℕ)
-encoded_words insn = option_map (λ word. word ∷ extensions insn) (first_word insn)
+encoded_words insn = option_map (λ word. word ∷ extensions insn) (leading_word insn)
 
 -- these words mean the instruction, by the code table, whatever words follow them
 abbrev pub IsMeant : Insn → List ℕ → Type 0

@@ -17,7 +17,7 @@ use Rattle.asm_line.specs.declared.statement.SectionKind.TheVariants.{Code as Co
 use Rattle.asm_line.specs.declared.statement.Statement.{Statement}
 use Rattle.asm_line.specs.declared.statement.Statement.TheVariants.{Section, Label, Global, Word, Space, Jump, Code}
 use Rattle.asm_line.specs.declared.TheConstants.{MAX_SIZE}
-use Rattle.asm_line.specs.Encoding.{first_word}
+use Rattle.asm_line.specs.Encoding.{leading_word}
 use Rattle.asm_line.specs.Operands.{name_of, field_of, operand_of, without_ending}
 use Rattle.asm_line.specs.Statements.{OperandValue}
 
@@ -25,7 +25,7 @@ use Rattle.asm_line.specs.Statements.{OperandValue}
 
 -- an instruction that some words mean
 abbrev pub coded : Insn → Option (List ℕ) → Option (List ℕ) → Option (Statement (List ℕ))
-coded insn first second = if is_some (first_word insn) then Some (Code insn first second) else None
+coded insn first second = if is_some (leading_word insn) then Some (Code insn first second) else None
 
 -- the mnemonic before `.b`, if it ends so
 abbrev pub mnemonic_width : List ℕ → Width

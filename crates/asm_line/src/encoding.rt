@@ -140,9 +140,9 @@ fn fits(op: OneOp, width: Width, arg: Operand) -> bool
 }
 
 /// The word of a jump, whose offset has ten bits, signed.
-#[tactic(auto, unfolding(crate::specs::Encoding::first_word))]
+#[tactic(auto, unfolding(crate::specs::Encoding::leading_word))]
 pub fn jump_word(condition: Condition, offset: i64) -> Option<u16>
-    ensures exact { result ≡ spec.first_word (Jump condition offset) }
+    ensures exact { result ≡ spec.leading_word (Jump condition offset) }
 {
     if offset < -512 || offset >= 512 {
         return None;
@@ -151,9 +151,9 @@ pub fn jump_word(condition: Condition, offset: i64) -> Option<u16>
 }
 
 /// The first word of an instruction, where the code table has it.
-#[tactic(auto, unfolding(crate::specs::Encoding::first_word))]
-pub fn first_word(insn: Insn) -> Option<u16>
-    ensures exact { result ≡ spec.first_word insn }
+#[tactic(auto, unfolding(crate::specs::Encoding::leading_word))]
+pub fn leading_word(insn: Insn) -> Option<u16>
+    ensures exact { result ≡ spec.leading_word insn }
 {
     match insn {
         Insn::Two {

@@ -11,7 +11,7 @@ ghost use Rattle.asm_line.specs.Renamed.{with_texts};
 ghost use Rattle.asm_line.specs.internal.Statements.{operand_value};
 
 use crate::MAX_SIZE;
-use crate::encoding::first_word;
+use crate::encoding::leading_word;
 use crate::operand::{field_of, name_of, operand_of};
 use crate::statement::{SectionKind, Statement, Value};
 use insn_decode::{Condition, Insn, OneOp, TwoOp, UnitName};
@@ -107,7 +107,7 @@ fn coded<'a>(
     ensures { option_map with_texts result ≡ spec.coded insn (option_copied first.entry)
         (option_copied second.entry) }
 {
-    if first_word(insn).is_some() {
+    if leading_word(insn).is_some() {
         Some(Statement::Code {
             insn,
             first,

@@ -25,7 +25,7 @@ use Rattle.asm_line.specs.declared.statement.Statement.TheVariants.{Section, Lab
 use Rattle.asm_text.specs.Emission.{Meanings, Emitted, statement_bytes, grown, with_statement, in_last, opened, emitted, field_number, jump_bytes, jump_over, reach}
 use Rattle.asm_text.specs.internal.Emitted.{newest_section}
 use Rattle.sm_words.specs.Bytes.{word_bytes}
-use Rattle.asm_line.specs.Encoding.{extension, extensions, first_word, encoded_words, code_bytes}
+use Rattle.asm_line.specs.Encoding.{extension, extensions, leading_word, encoded_words, code_bytes}
 use Rattle.asm_text.specs.Parts.{SectionValue, kept_size}
 use Rattle.asm_text.specs.Placing.{Placed, placed_section, with_bytes, with_label, within, in_section, last_head, placed, has_section, spot_of}
 use Rattle.asm_line.specs.Statements.{statement_size, kind_takes}
@@ -114,7 +114,7 @@ words_size word _ = refl
 
 code_size : (insn : Insn) (bytes : List ℕ) → code_bytes insn ≡ Some bytes → length bytes ≡ 2 * length_of insn
 code_size insn bytes e = option_map_some (flat_map word_bytes) (encoded_words insn) bytes e (λ words is same.
-    option_map_some (λ w. w ∷ extensions insn) (first_word insn) words is (λ word first are.
+    option_map_some (λ w. w ∷ extensions insn) (leading_word insn) words is (λ word first are.
     ap length (sym same) ∙ (ap (λ ws. length (flat_map word_bytes ws)) (sym are) ∙ words_size word insn)))
 
 pub ok_is : {A : Type 0} (a b : A) → ◌≡◌ {A = Result A AsmFault} (Ok a) (Ok b) → a ≡ b

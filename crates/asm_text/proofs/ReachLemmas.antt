@@ -23,7 +23,7 @@ use Rattle.asm_text.specs.Assembly.{name_count, symbol_order, meanings, unit_for
 use Rattle.asm_text.specs.Emission.{Meanings, Emitted, nothing, emitted, emitted_from, statement_bytes, field_number, with_statement, in_last, grown, reach, jump_over, jump_bytes}
 use Rattle.asm_text.specs.internal.Emitted.{newest_section}
 use Rattle.sm_words.specs.Bytes.{word_bytes}
-use Rattle.asm_line.specs.Encoding.{first_word, encoded_words, code_bytes, IsMeant}
+use Rattle.asm_line.specs.Encoding.{leading_word, encoded_words, code_bytes, IsMeant}
 use Rattle.asm_text.specs.Jumps.{LeadsToLabel, JumpsReachLabels, LabelsAreEven}
 use Rattle.asm_text.specs.internal.Kept.{IsSource}
 use Rattle.asm_text.specs.internal.Known.{IsKnown}
@@ -203,7 +203,7 @@ pub record IsJump (m : Meanings) (section here : ℕ) (cn : Condition) (target :
   pub offset : ℕ
   pub spot : spot_of m.spots target ≡ Some (record { section = section; offset = offset })
   pub word : ℕ
-  pub first : first_word (JumpInsn cn (reach here offset)) ≡ Some word
+  pub first : leading_word (JumpInsn cn (reach here offset)) ≡ Some word
   pub are : bytes ≡ word_bytes word
 
 is_jump : (m : Meanings) (n section here : ℕ) (cn : Condition) (target : ℕ) (bytes : List ℕ) → jump_bytes n section here cn (spot_of m.spots target) ≡ Ok bytes → IsJump m section here cn target bytes
@@ -211,7 +211,7 @@ is_jump m n section here cn target bytes k = by (spot_of m.spots target) refl k
   where
     by_words : (spot : Spot) → spot_of m.spots target ≡ Some spot → spot.section ≡ section → code_bytes (JumpInsn cn (reach here spot.offset)) ≡ Some bytes → IsJump m section here cn target bytes
     by_words spot is same j = option_map_some (flat_map word_bytes) (encoded_words (JumpInsn cn (reach here spot.offset))) bytes j (λ words made puts.
-        option_map_some (λ w. w ∷ []) (first_word (JumpInsn cn (reach here spot.offset))) words made (λ word first are. record {
+        option_map_some (λ w. w ∷ []) (leading_word (JumpInsn cn (reach here spot.offset))) words made (λ word first are. record {
           offset = spot.offset;
           spot = is ∙ ap Some (λ i. record { section = same i; offset = spot.offset });
           word = word;

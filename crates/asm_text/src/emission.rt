@@ -18,7 +18,7 @@ use crate::names::string_of;
 use crate::placing::{Spot, statement_size};
 use crate::unit::{AsmFault, AsmRelocation, AsmSection};
 use arrayvec::ArrayVec;
-use asm_line::{Field, SectionKind, Statement, first_word, jump_word};
+use asm_line::{Field, SectionKind, Statement, leading_word, jump_word};
 use insn_decode::{Condition, Insn, Operand};
 use std::alloc::{AllocError, Global};
 
@@ -60,7 +60,7 @@ fn push_extension(operand: Operand, bytes: &mut Bytes)
 fn code_bytes(insn: Insn) -> Option<Bytes>
     ensures { option_map (λ bytes. bytes.items) result ≡ encoding.code_bytes insn }
 {
-    let word = first_word(insn)?;
+    let word = leading_word(insn)?;
     let mut bytes = ArrayVec::new();
     push_word(word, &mut bytes);
     match insn {
