@@ -7,7 +7,7 @@ mod line;
 mod operand;
 mod statement;
 
-pub use encoding::{leading_word, jump_word};
+pub use encoding::{jump_word, leading_word};
 pub use line::statement_of;
 pub use statement::{Field, SectionKind, Statement};
 

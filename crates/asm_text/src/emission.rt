@@ -18,7 +18,7 @@ use crate::names::string_of;
 use crate::placing::{Spot, statement_size};
 use crate::unit::{AsmFault, AsmRelocation, AsmSection};
 use arrayvec::ArrayVec;
-use asm_line::{Field, SectionKind, Statement, leading_word, jump_word};
+use asm_line::{Field, SectionKind, Statement, jump_word, leading_word};
 use insn_decode::{Condition, Insn, Operand};
 use std::alloc::{AllocError, Global};
 
