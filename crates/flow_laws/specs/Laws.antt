@@ -6,7 +6,6 @@ use Rattle.mod_layout.specs.Table.{size_of}
 use Rattle.mod_layout.specs.Tables.{IsSection}
 use Rattle.cpu_step.specs.Lone.{Entrance, IsEntry, starts, job_of, outcome, alike_but, AlwaysEven, AlwaysEvenBut}
 use Rattle.flow_rule.specs.Terms.{Terms}
-use Rattle.flow_rule.specs.declared.Verdict.{Verdict}
 use Rattle.flow_rule.specs.declared.Verdict.TheVariants.{Yes}
 use Rattle.arm_balance.specs.declared.Arm.{Arm}
 use Rattle.flow_rule.specs.Does.{word_no}

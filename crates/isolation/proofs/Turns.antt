@@ -1,5 +1,5 @@
 -- A turn in which the module is not active, also one that enters it.
-use Rattle.std.proofs.Common.{◌≡◌, ◌≢◌, ℕ, zero, suc, ◌+◌, ◌-◌, ◌<◌, List, [], ◌∷◌, refl, sym, ap, ◌∙◌, subst, arith, Bool, true, false, ◌||◌, ◌==◌, Option, Some, None}
+use Rattle.std.proofs.Common.{◌≡◌, ◌≢◌, ℕ, zero, suc, ◌-◌, ◌<◌, List, [], ◌∷◌, refl, sym, ap, ◌∙◌, subst, arith, Bool, true, false, ◌==◌, Option, Some, None}
 use Rattle.cpu_step.specs.Lone.{Lone, doing, doing_by, next_insn, lone_does, job_of}
 use Rattle.insn_decode.specs.declared.insn.Insn.{Insn}
 use Rattle.run_laws.specs.Frames.{rest_of}
@@ -11,14 +11,11 @@ use Rattle.mod_layout.specs.declared.Place.TheVariants.{Entry, Data}
 use Rattle.pc_access.specs.Rights.{is_id, is_held, right, right_at}
 use Rattle.pc_access.specs.declared.Denied.{Denied}
 use Rattle.pc_access.specs.declared.Kind.TheVariants.{Fetch}
-use Rattle.pc_access.specs.declared.Rule.{Rule}
 use Rattle.reg_backup.specs.Held.{held_ids}
 use Rattle.reg_backup.specs.declared.backup.After.TheVariants.{Next}
 use Rattle.reg_backup.specs.declared.backup.Backup.{Backup}
 use Rattle.reg_backup.specs.declared.backup.Phase.{Phase}
 use Rattle.reg_backup.specs.declared.backup.Phase.TheVariants.{Run, Pad}
-use Rattle.reg_backup.specs.declared.frames.Frame.{Frame}
-use Rattle.reg_backup.specs.declared.frames.Frame.TheVariants.{Plain, Module as Held}
 use Rattle.sm_words.specs.Sums.{one_if}
 use Rattle.sm_words.specs.Words.{reg, IsCore}
 use Rattle.std.proofs.lemmas.Bool.Decides.{nat_tests}
@@ -33,7 +30,7 @@ use Rattle.isolation.proofs.Evenly.{Evenly, Together, next_together}
 use Rattle.isolation.proofs.Hide.{veil, veil_step, veil_core, hide_by, held_ids_veiled}
 use Rattle.isolation.proofs.Inside.{Moves, did_act}
 use Rattle.isolation.proofs.Outside.{Light, light, outer_by, stays_by, arrived_active, arrive_outside_outer, act_outer, act_active}
-use Rattle.isolation.proofs.Relation.{find_held, times, none_found, run_by, run_of, same_secret, Keeps, Ready, Stays, stays_self, Alike, Outer, outer_alike, seen_veiled, seen_active}
+use Rattle.isolation.proofs.Relation.{find_held, none_found, run_by, run_of, same_secret, Keeps, Ready, Stays, stays_self, Alike, Outer, outer_alike, seen_veiled, seen_active}
 use Rattle.run_laws.proofs.Rights.{own_id, holds_in}
 use Rattle.isolation.proofs.Settled.{arrive_inside_stays}
 use Rattle.isolation.proofs.Settling.{arrive_hidden, due_hidden, enter_veiled}

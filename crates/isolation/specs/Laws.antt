@@ -1,7 +1,7 @@
 -- The laws of the written machine. Each is what a function of this crate ensures.
 use Rattle.std.specs.Prelude.{◌≡◌, ◌≢◌, ℕ, suc, ◌+◌, List, filter, true, false, is_some, None}
 use Rattle.schedule_file.specs.declared.Entry.{Entry}
-use Rattle.mod_layout.specs.Table.{module_of, takes}
+use Rattle.mod_layout.specs.Table.{module_of}
 use Rattle.mod_layout.specs.declared.Module.{Module}
 use Rattle.pc_access.specs.Rights.{is_id}
 use Rattle.image_text.specs.Image.{Image}

@@ -1,5 +1,5 @@
 -- What the events of a cycle tell.
-use Rattle.std.specs.Prelude.{◌≡◌, ◌≢◌, ◌⊎◌, ℕ, ◌-◌, List, [], ◌∷◌, Bool, false, ◌==◌, if◌then◌else◌, Option, Some, None}
+use Rattle.std.specs.Prelude.{◌≡◌, ◌≢◌, ◌⊎◌, ℕ, List, [], ◌∷◌, Bool, false, ◌==◌, Option, Some, None}
 use Rattle.pc_access.specs.declared.Stop.{Stop}
 use Rattle.tracer.specs.declared.Event.{Event}
 use Rattle.tracer.specs.declared.Event.TheVariants.{Close as Closed, Handler as Handling, Leave as Left, Hide as Hid, Enter as Entered, Stop as Stopped}
