@@ -131,6 +131,9 @@ sum_set counts i c h = sum_by-set (λ (x : ℕ). x) counts i c 0 h
 
 -- ---- the whole
 
+pub count_is : (counts : List ℕ) (page names : ℕ) → page < length counts → get_or counts page 0 ≡ names → slice_get counts page ≡ Some names
+count_is counts page names there is = slice_get-get_or counts page 0 there ∙ ap Some is
+
 abbrev pub table_after : Table → ℕ → ℕ → Table
 table_after u n page = record { is_live = u.is_live; places = set u.places n page }
 
@@ -190,11 +193,11 @@ copy_counted pages counts tables free spare t n shared d k there live small name
           (All-set (λ place. place < length (set pages page (get_or pages shared []))) u.places n page (omega arith)
           (rw pages_long inside_u))
           (rw pages_long k.named);
-      counted = λ p h.
+      counted = λ p h. count_is (counts_after counts shared page) p (names_of p (set tables t v)) (omega arith) (
           let moved = names_of-set_place tables t n shared page p d there live (omega arith) names in
           let counts_moved = counts_after-get_or counts shared page p hs page_in none two in
-          let before : get_or counts p 0 ≡ names_of p tables = k.counted p (omega arith) in
-          omega arith;
+          let before : get_or counts p 0 ≡ names_of p tables = get_or_from_slice_get counts p (names_of p tables) 0 (k.counted p (omega arith)) in
+          omega arith);
       total = omega arith;
       spared = free_after counts free spare shared k.spared some hs two;
     }
@@ -222,7 +225,7 @@ copy_same pages counts tables free spare t n shared d k there live small names t
     let page_in : page < length counts = free_inside counts free spare (spare - 1) k.spared last in
     let none : get_or counts page 0 ≡ 0 = free_unnamed counts free spare (spare - 1) k.spared last in
     let page_there : page < length pages = omega arith in
-    let all_none : names_of page tables ≡ 0 = sym (k.counted page page_there) ∙ none in
+    let all_none : names_of page tables ≡ 0 = sym (get_or_from_slice_get counts page (names_of page tables) 0 (k.counted page page_there)) ∙ none in
     let of_u : names_in page u ≤ names_of page tables = get_or-le-sum_by (names_in page) tables t d there in
     let live_u : names_in page u ≡ times_in page u.places = live_names page u.is_live u.places live in
     let u_none : times_in page u.places ≡ 0 = omega arith in

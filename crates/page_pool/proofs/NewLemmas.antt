@@ -12,7 +12,7 @@ use Rattle.page_pool.specs.internal.Counts.{times_in, IsFree}
 use Rattle.page_pool.specs.Tables.{zeros}
 use Rattle.page_pool.specs.internal.Naming.{names_of, bytes_at, table_at, tables_at, IsCounted}
 use Rattle.page_pool.proofs.TableLemmas.{names_in}
-use Rattle.page_pool.proofs.CopyLemmas.{are_free}
+use Rattle.page_pool.proofs.CopyLemmas.{are_free, count_is}
 
 page_zero : (page n : ℕ) → times_in page (replicate n 0) ≡ n * cond {A = ℕ} (eqb 0 page) 1 0
 page_zero page n = sum_by-replicate (λ q. cond {A = ℕ} (eqb q page) 1 0) n 0
@@ -92,7 +92,7 @@ new_counted pages counts tables free n table least most p c t e long falling =
           (rw t (All-replicate (λ w. length w.places ≡ 256) n dead (length-replicate {A = ℕ} 256 0)));
       named = All-set (λ w. All (λ place. place < length pages) w.places) tables 0 live (rw places_are small)
           (rw t (All-replicate (λ w. All (λ place. place < length pages) w.places) n dead small));
-      counted = λ page h. ⊎_elim
+      counted = λ page h. count_is (set counts 0 256) page (names_of page (set tables 0 live)) (omega arith) (⊎_elim
           (λ z. let g : 0 ≡ page = z.1 in
           let one : cond {A = ℕ} (eqb 0 page) 1 0 ≡ 1 = cond-true {A = ℕ} (eqb 0 page) 1 0 z.0 in
           let names = named_first page in
@@ -103,7 +103,7 @@ new_counted pages counts tables free n table least most p c t e long falling =
           let away : page ≢ 0 = λ q. z.1 (sym q) in
           let here : get_or (set counts 0 256) page 0 ≡ 0 = get_or-set_other counts 0 page 256 0 away ∙ ap (λ (cs : List ℕ). get_or cs page 0) c ∙ get_or-replicate (n * 256) page 0 0 (omega arith) in
           omega arith)
-          (eqb_tells 0 page);
+          (eqb_tells 0 page));
       total = omega arith;
       spared = free_of (n * 256) counts free (omega arith) c long falling;
     }

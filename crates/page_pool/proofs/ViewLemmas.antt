@@ -1,13 +1,12 @@
 -- What a table shows, page by page, and which tables are live.
-use Rattle.std.proofs.Common.{◌≡◌, ℕ, ◌+◌, ◌-◌, ◌*◌, ◌<◌, true, false, Bool, cond, List, [], ◌∷◌, ◌++◌, Some, None, Option, IsSome, option_map, length, get_or, take, drop, All, slice_range, refl, subst, ap, ◌∙◌, arith, suc, zero, ⊎_elim}
-use Rattle.std.proofs.lemmas.Bool.{cases_lt, false≢true}
-use Rattle.std.proofs.lemmas.List.{length-append, length-map, get_or-map, get_or_past}
+use Rattle.std.proofs.Common.{◌≡◌, ℕ, ◌+◌, ◌-◌, ◌*◌, ◌<◌, true, false, Bool, cond, List, [], ◌∷◌, ◌++◌, Some, None, Option, IsSome, option_map, length, get_or, take, drop, All, slice_range, refl, subst, ap, ◌∙◌, arith, suc, zero}
+use Rattle.std.proofs.lemmas.List.{length-append, length-map, get_or-map, get_or_read}
 use Rattle.std.proofs.Math.Seq.{take-append_seam, drop-append-add}
 use Rattle.std.proofs.lemmas.List.Elements.{All-head, All-tail, All-get_or, All-map, All-weaker}
 use Rattle.page_pool.specs.declared.store.Table.{Table}
 use Rattle.page_pool.specs.Tables.{table_of, IsLive, IsUnused}
-use Rattle.page_pool.specs.internal.Naming.{bytes_at, table_at, tables_at, IsCounted, no_table, page_place, IsLiveIn, IsUnusedIn}
-use Rattle.page_pool.proofs.StoreLemmas.{places_long, live_table}
+use Rattle.page_pool.specs.internal.Naming.{bytes_at, table_at, tables_at, IsCounted}
+use Rattle.page_pool.proofs.StoreLemmas.{no_table, place_of, live_in, none_is_some, place_inside, places_long, live_table}
 
 -- ---- pages
 
@@ -36,43 +35,27 @@ page_range pages (p ∷ ps) (suc n) h inside whole =
 
 -- ---- tables
 
-table_shown : (pages : List (List ℕ)) (live : Bool) (places : List ℕ) → IsSome (cond live (Some (bytes_at pages places)) None) → live ≡ true
-table_shown pages true places h = refl
-table_shown pages false places h = h
-
-none_is_some : {o : Option (List ℕ)} → o ≡ None → IsSome o → ⊥
-none_is_some {o} e h = false≢true (subst (λ (x : Option (List ℕ)). IsSome x) e h)
-
-pub live_in : (pages : List (List ℕ)) (tables : List Table) (t : ℕ) → IsLive (tables_at pages tables) t → IsLiveIn tables t
-live_in pages tables t h = ⊎_elim
-    (λ l. record {
-      there = l;
-      live = table_shown pages (get_or tables t no_table).is_live (get_or tables t no_table).places
-          (subst (λ (o : Option (List ℕ)). IsSome o) (get_or-map (table_at pages) tables t no_table None l) h);
-    })
-    (λ l. absurd (let e : get_or (tables_at pages tables) t None ≡ None = get_or_past (tables_at pages tables) t None (rw (length-map tables (table_at pages)) l) in
-    none_is_some e h))
-    (cases_lt t (length tables))
-
-pub page_shown : (pages : List (List ℕ)) (counts : List ℕ) (tables : List Table) (free : List ℕ) (spare t n : ℕ) (before : List (Option (List ℕ)))
-    → IsCounted pages counts tables free spare → tables_at pages tables ≡ before → IsLive before t → n < 256
-    → option_map (λ bytes. slice_range bytes (256 * n) (256 * n + 256)) (table_of before t) ≡ Some (get_or pages (page_place tables t n) [])
-page_shown pages counts tables free spare t n before k same l small =
-    let live : IsLiveIn tables t = live_in pages tables t (rw same l) in
-    let places = places_long pages counts tables free spare t k live in
-    let there : table_of before t ≡ Some (bytes_at pages (get_or tables t no_table).places) = rw (← same) (live_table pages tables t live) in
-    let inside : All (λ place. place < length pages) (get_or tables t no_table).places = All-get_or (λ w. All (λ place. place < length pages) w.places) tables t no_table live.there k.named in
+pub page_shown : (pages : List (List ℕ)) (counts : List ℕ) (tables : List Table) (free : List ℕ) (spare t n : ℕ) (table : Table) (place : ℕ) (page : List ℕ)
+    → IsCounted pages counts tables free spare → IsLive (tables_at pages tables) t → n < 256
+    → table ≡ get_or tables t table → place ≡ get_or table.places n 0 → page ≡ get_or pages place page
+    → option_map (λ bytes. slice_range bytes (256 * n) (256 * n + 256)) (table_of (tables_at pages tables) t) ≡ Some page
+page_shown pages counts tables free spare t n table place page k live small e is f =
+    let l = live_in pages tables t live in
+    let places = places_long pages counts tables free spare t k l in
+    let inside : All (λ place. place < length pages) (get_or tables t no_table).places = All-get_or (λ w. All (λ place. place < length pages) w.places) tables t no_table l.there k.named in
     let width : 256 * n + 256 - 256 * n ≡ 256 = omega arith in
-    rw (there, width) (ap (λ (page : List ℕ). Some page) (page_range pages (get_or tables t no_table).places n (omega arith) inside k.whole_pages))
+    let at : place ≡ place_of tables t n = is ∙ ap (λ (w : Table). get_or w.places n 0) (get_or_read tables t table l.there e no_table) in
+    let read : page ≡ get_or pages (place_of tables t n) [] = get_or_read pages (place_of tables t n) page (place_inside pages counts tables free spare t n k live small) (f ∙ ap (λ (i : ℕ). get_or pages i page) at) [] in
+    rw (live_table pages tables t l, width, read) (ap (λ (bytes : List ℕ). Some bytes) (page_range pages (get_or tables t no_table).places n (omega arith) inside k.whole_pages))
 
 pub size_shown : (pages : List (List ℕ)) (counts : List ℕ) (tables : List Table) (free : List ℕ) (spare t : ℕ) (before : List (Option (List ℕ)))
     → IsCounted pages counts tables free spare → tables_at pages tables ≡ before → IsLive before t
     → option_map (λ bytes. length bytes) (table_of before t) ≡ Some 65536
-size_shown pages counts tables free spare t before k same l =
-    let live : IsLiveIn tables t = live_in pages tables t (rw same l) in
-    let places = places_long pages counts tables free spare t k live in
-    let there : table_of before t ≡ Some (bytes_at pages (get_or tables t no_table).places) = rw (← same) (live_table pages tables t live) in
-    let inside : All (λ place. place < length pages) (get_or tables t no_table).places = All-get_or (λ w. All (λ place. place < length pages) w.places) tables t no_table live.there k.named in
+size_shown pages counts tables free spare t before k same live =
+    let l = live_in pages tables t (rw same live) in
+    let places = places_long pages counts tables free spare t k l in
+    let there : table_of before t ≡ Some (bytes_at pages (get_or tables t no_table).places) = rw (← same) (live_table pages tables t l) in
+    let inside : All (λ place. place < length pages) (get_or tables t no_table).places = All-get_or (λ w. All (λ place. place < length pages) w.places) tables t no_table l.there k.named in
     let long = bytes_long pages (get_or tables t no_table).places inside k.whole_pages in
     rw there (ap (λ (size : ℕ). Some size) (omega arith))
 
@@ -81,10 +64,10 @@ size_shown pages counts tables free spare t before k same l =
 dead_table : (pages : List (List ℕ)) (live : Bool) (places : List ℕ) → live ≡ false → cond live (Some (bytes_at pages places)) None ≡ None
 dead_table pages live places h = rw h refl
 
-pub unused_shown : (pages : List (List ℕ)) (tables : List Table) (t : ℕ) → IsUnusedIn tables t → IsUnused (tables_at pages tables) t
-unused_shown pages tables t u = record {
-  there = rw (length-map tables (table_at pages)) u.there;
-  unused = get_or-map (table_at pages) tables t no_table None u.there ∙ dead_table pages (get_or tables t no_table).is_live (get_or tables t no_table).places u.unused;
+pub unused_shown : (pages : List (List ℕ)) (tables : List Table) (t : ℕ) (d : Table) → t < length tables → (get_or tables t d).is_live ≡ false → IsUnused (tables_at pages tables) t
+unused_shown pages tables t d there dead = record {
+  there = rw (length-map tables (table_at pages)) there;
+  unused = get_or-map (table_at pages) tables t d None there ∙ dead_table pages (get_or tables t d).is_live (get_or tables t d).places dead;
 }
 
 some_of : (pages : List (List ℕ)) (live : Bool) (places : List ℕ) → live ≡ true → IsSome (cond live (Some (bytes_at pages places)) None)

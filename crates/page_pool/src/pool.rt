@@ -45,7 +45,7 @@ impl Pool {
     }
 
     /// Page `n` of a live table: the 256 bytes from address 256 times `n` on.
-    #[tactic(auto, using(crate::proofs::ViewLemmas::page_shown, crate::proofs::ViewLemmas::size_shown))]
+    #[tactic(auto, using(crate::proofs::ViewLemmas::size_shown))]
     pub fn page(&self, t: u16, n: u8) -> &[u8]
         requires { IsLive self.now t }
         ensures page { option_map (λ bytes. slice_range bytes (256 * n) (256 * n + 256)) (table_of self.now t) ≡
@@ -69,7 +69,7 @@ impl Pool {
 
     /// Makes a free table live with the bytes of table `t`, and returns its number.
     /// Pages are shared: no byte is copied.
-    #[tactic(auto, using(crate::proofs::ViewLemmas::unused_shown, crate::proofs::ViewLemmas::all_shown, crate::proofs::ViewLemmas::not_all_shown))]
+    #[tactic(auto, using(crate::proofs::ViewLemmas::not_all_shown))]
     pub fn copy_table(&mut self, t: u16) -> Result<u16, Full>
         requires { IsLive self.old t }
         ensures full { IsErr result ↔ All (λ table. IsSome table) self.old }

@@ -30,9 +30,9 @@ pub struct Store {
 }
 
 impl Store {
-    ghost use Rattle.std.specs.Prelude.{◌≡◌, ◌≢◌, ◌+◌, ◌*◌, ◌<◌, [], get_or, slice_set, option_map, replicate, true, All, Some, None, IfOk, IsNone, IfSome};
-    ghost use Rattle.page_pool.specs.Tables.{table_of, zeros};
-    ghost use Rattle.page_pool.specs.internal.Naming.{tables_of, page_place, IsLiveIn, IsUnusedIn, IsStore};
+    ghost use Rattle.std.specs.Prelude.{◌≡◌, ◌≢◌, ◌+◌, ◌*◌, ◌<◌, get_or, length, slice_range, slice_set, option_map, replicate, All, Some, None, IfOk, IsNone, IsSome, IfSome};
+    ghost use Rattle.page_pool.specs.Tables.{table_of, zeros, IsLive, IsUnused};
+    ghost use Rattle.page_pool.specs.internal.Naming.{tables_of, page_place, IsStore};
 
     /// A store of so many tables, of which table 0 alone is live. All its bytes are 0, on one page.
     #[tactic(auto, using(crate::proofs::NewLemmas::new_counted, crate::proofs::NewLemmas::new_shown))]
@@ -59,19 +59,21 @@ impl Store {
     #[tactic(auto, using(crate::proofs::StoreLemmas::place_inside))]
     pub fn page(&self, t: usize, n: usize) -> &[u8]
         requires store { IsStore self.now }
-        requires live { IsLiveIn self.now.tables.items t }
+        requires live { IsLive (tables_of self.now) t }
         requires place { n < 256 }
-        ensures page { result.now ≡ get_or self.now.pages.items (page_place self.now.tables.items t n) [] }
+        ensures page { option_map (λ bytes. slice_range bytes (256 * n) (256 * n + 256))
+            (table_of (tables_of self.now) t) ≡ Some result.now }
+        ensures length { length result.now ≡ 256 }
     {
         let place = self.tables[t].places[n];
         &self.pages[usize::from(place)]
     }
 
     /// Changes byte `at` of the page that place `n` of table `t` names, in that table alone.
-    #[tactic(auto, using(crate::proofs::StoreLemmas::page_written, crate::proofs::StoreLemmas::page_counted, crate::proofs::StoreLemmas::place_inside))]
+    #[tactic(auto, using(crate::proofs::StoreLemmas::page_written, crate::proofs::StoreLemmas::page_counted, crate::proofs::StoreLemmas::named_inside))]
     pub fn write(&mut self, t: usize, n: usize, at: usize, byte: u8)
         requires store { IsStore self.old }
-        requires live { IsLiveIn self.old.tables.items t }
+        requires live { IsLive (tables_of self.old) t }
         requires place { n < 256 }
         requires at { at < 256 }
         ensures store { IsStore self.new }
@@ -83,36 +85,36 @@ impl Store {
     }
 
     // The page that place `n` of table `t` names, which no other place names from now on.
+    #[tactic(auto, using(crate::proofs::StoreLemmas::place_inside))]
     fn own_page(&mut self, t: usize, n: usize) -> usize
         requires store { IsStore self.old }
-        requires live { IsLiveIn self.old.tables.items t }
+        requires live { IsLive (tables_of self.old) t }
         requires place { n < 256 }
         ensures store { IsStore self.new }
         ensures same { tables_of self.new ≡ tables_of self.old }
-        ensures live { IsLiveIn self.new.tables.items t }
-        ensures place { page_place self.new.tables.items t n ≡ result }
+        ensures place { page_place self.new.tables.items t n ≡ Some result }
         ensures own { get_or self.new.counts.items result 0 ≡ 1 }
     {
         let page = usize::from(self.tables[t].places[n]);
         if self.counts[page] == 1 {
             return page;
         }
-        self.copy_page(t, n)
+        self.copy_page(t, n, page)
     }
 
-    // Gives place `n` of table `t`, whose page others name too, a page of its own with the same bytes.
-    fn copy_page(&mut self, t: usize, n: usize) -> usize
+    // Gives place `n` of table `t`, whose page `shared` others name too, a page of its own with the same bytes.
+    #[tactic(auto, using(crate::proofs::StoreLemmas::named_inside))]
+    fn copy_page(&mut self, t: usize, n: usize, shared: usize) -> usize
         requires store { IsStore self.old }
-        requires live { IsLiveIn self.old.tables.items t }
+        requires live { IsLive (tables_of self.old) t }
         requires place { n < 256 }
-        requires shared { get_or self.old.counts.items (page_place self.old.tables.items t n) 0 ≢ 1 }
+        requires named { page_place self.old.tables.items t n ≡ Some shared }
+        requires shared { get_or self.old.counts.items shared 0 ≢ 1 }
         ensures store { IsStore self.new }
         ensures same { tables_of self.new ≡ tables_of self.old }
-        ensures live { IsLiveIn self.new.tables.items t }
-        ensures place { page_place self.new.tables.items t n ≡ result }
+        ensures place { page_place self.new.tables.items t n ≡ Some result }
         ensures own { get_or self.new.counts.items result 0 ≡ 1 }
     {
-        let shared = usize::from(self.tables[t].places[n]);
         self.spare -= 1;
         let place = self.free[self.spare];
         let page = usize::from(place);
@@ -127,8 +129,8 @@ impl Store {
     #[tactic(auto, using(crate::proofs::ShareLemmas::places_named, crate::proofs::ShareLemmas::places_inside, crate::proofs::ShareLemmas::total_small, crate::proofs::ShareLemmas::share_counted, crate::proofs::ShareLemmas::share_same))]
     pub fn share(&mut self, from: usize, to: usize)
         requires store { IsStore self.old }
-        requires live { IsLiveIn self.old.tables.items from }
-        requires unused { IsUnusedIn self.old.tables.items to }
+        requires live { IsLive (tables_of self.old) from }
+        requires unused { IsUnused (tables_of self.old) to }
         ensures store { IsStore self.new }
         ensures shared { tables_of self.new ≡ slice_set (tables_of self.old) to (table_of (tables_of self.old) from) }
     {
@@ -141,7 +143,7 @@ impl Store {
     #[tactic(auto, using(crate::proofs::ShareLemmas::places_inside, crate::proofs::ShareLemmas::names_enough, crate::proofs::ShareLemmas::end_counted, crate::proofs::ShareLemmas::end_same))]
     pub fn end(&mut self, t: usize)
         requires store { IsStore self.old }
-        requires live { IsLiveIn self.old.tables.items t }
+        requires live { IsLive (tables_of self.old) t }
         ensures store { IsStore self.new }
         ensures ended { tables_of self.new ≡ slice_set (tables_of self.old) t None }
     {
@@ -155,9 +157,10 @@ impl Store {
     }
 
     /// A table that is not live, where there is one.
+    #[tactic(auto, using(crate::proofs::ViewLemmas::unused_shown))]
     pub fn unused(&self) -> Option<usize>
-        ensures none { IsNone result → All (λ t. t.is_live ≡ true) self.now.tables.items }
-        ensures some { IfSome result (λ t. IsUnusedIn self.now.tables.items t) }
+        ensures none { IsNone result → All (λ table. IsSome table) (tables_of self.now) }
+        ensures some { IfSome result (λ t. IsUnused (tables_of self.now) t) }
     {
         for (t, table) in self.tables.iter().enumerate() {
             if !table.is_live {

@@ -1,5 +1,5 @@
 -- How a pool keeps its tables: places that name pages, and counts of these names.
-use Rattle.std.specs.Prelude.{◌≡◌, ℕ, ◌*◌, ◌<◌, ◌≤◌, cond, false, true, List, [], Option, Some, None, All, length, get_or, map, sum, sum_by, count_by, flat_map}
+use Rattle.std.specs.Prelude.{◌≡◌, ℕ, ◌*◌, ◌<◌, ◌≤◌, cond, List, [], Option, Some, None, option_and_then, All, length, get_or, slice_get, map, sum, sum_by, count_by, flat_map}
 use Rattle.page_pool.specs.internal.Counts.{times_in, IsFree}
 use Rattle.page_pool.specs.declared.store.Table.{Table}
 use Rattle.page_pool.specs.declared.store.Store.{Store}
@@ -19,22 +19,9 @@ tables_at pages tables = map (table_at pages) tables
 abbrev pub names_of : ℕ → List Table → ℕ
 names_of page tables = sum_by (λ t. cond t.is_live (times_in page t.places) 0) tables
 
--- table t, and the page that its place n names
-abbrev pub no_table : Table
-no_table = record { is_live = false; places = [] }
-
-abbrev pub page_place : List Table → ℕ → ℕ → ℕ
-page_place tables t n = get_or (get_or tables t no_table).places n 0
-
--- that table t is there and live
-pub record IsLiveIn (tables : List Table) (t : ℕ) : Type 0 where
-  pub there : t < length tables
-  pub live : (get_or tables t no_table).is_live ≡ true
-
--- that table t is there and not live
-pub record IsUnusedIn (tables : List Table) (t : ℕ) : Type 0 where
-  pub there : t < length tables
-  pub unused : (get_or tables t no_table).is_live ≡ false
+-- the page that place n of table t names, where both are there
+abbrev pub page_place : List Table → ℕ → ℕ → Option ℕ
+page_place tables t n = option_and_then (λ table. slice_get table.places n) (slice_get tables t)
 
 -- each page's count is the number of places of live tables that name it, and there is a page for each place
 pub record IsCounted (pages : List (List ℕ)) (counts : List ℕ) (tables : List Table) (free : List ℕ) (spare : ℕ) : Type 0 where
@@ -45,7 +32,7 @@ pub record IsCounted (pages : List (List ℕ)) (counts : List ℕ) (tables : Lis
   pub whole_pages : All (λ page. length page ≡ 256) pages
   pub whole_tables : All (λ t. length t.places ≡ 256) tables
   pub named : All (λ t. All (λ place. place < length pages) t.places) tables
-  pub counted : (page : ℕ) → page < length pages → get_or counts page 0 ≡ names_of page tables
+  pub counted : (page : ℕ) → page < length pages → slice_get counts page ≡ Some (names_of page tables)
   pub total : sum counts ≡ 256 * count_by (λ t. t.is_live) tables
   pub spared : IsFree counts free spare
 
