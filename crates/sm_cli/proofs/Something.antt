@@ -6,12 +6,9 @@ use Rattle.sm_io.specs.Files.{FileMap}
 use Rattle.texts.specs.Hexadecimals.{read_hex_word, read_hex_key}
 use Rattle.mod_layout.specs.declared.Module.{Module}
 use Rattle.mod_layout.specs.Table.{module_of}
-use Rattle.image_text.specs.Image.{Image}
 use Rattle.schedule_file.specs.declared.Entry.{Entry}
 use Rattle.elf_objects.specs.Object.{ObjectValue}
 use Rattle.linker.specs.Refusals.{link_fault_of}
-use Rattle.arm_balance.specs.declared.Arm.{Arm}
-use Rattle.vendor_tool.specs.declared.Challenge.{Challenge}
 use Rattle.cli_files.specs.Files.{Held, HoldAll, an_image, a_schedule, the_challenges, the_replies, certificates, a_layout, a_script, a_unit, schedule_needs, object_needs}
 use Rattle.cli_calls.specs.Words.{Text}
 use Rattle.cli_calls.specs.Ids.{id_of}

@@ -1,4 +1,4 @@
-use Rattle.std.proofs.Common.{[], ◌∷◌, refl, ap}
+use Rattle.std.proofs.Common.{[], ◌∷◌, refl}
 use Rattle.flow_rule.specs.Terms.{no_terms}
 use Rattle.written_machine.specs.Peers.{section}
 use Rattle.sm_cli.specs.CheckCommand.{check_outcome}

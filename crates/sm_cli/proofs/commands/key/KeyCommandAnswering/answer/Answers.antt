@@ -1,4 +1,4 @@
-use Rattle.std.proofs.Common.{[], ◌∷◌, refl, ap}
+use Rattle.std.proofs.Common.{[], ◌∷◌, refl}
 use Rattle.cli_files.specs.declared.answers.Status.TheVariants.{Done}
 use Rattle.cli_files.specs.Files.{an_image}
 use Rattle.sm_cli.specs.KeyCommand.{key_command, key_lines, key_outcome}

@@ -1,4 +1,4 @@
-use Rattle.std.proofs.Common.{[], ◌∷◌, ap, subst, List, ℕ}
+use Rattle.std.proofs.Common.{[], ◌∷◌, subst, List, ℕ}
 use Rattle.sm_io.specs.Files.{FileMap}
 use Rattle.sm_io.specs.Sink.{Took, CutOff}
 use Rattle.std.specs.Prelude.{Option}
