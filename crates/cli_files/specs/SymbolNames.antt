@@ -22,9 +22,13 @@ name_in layout objects (link_fault.NoEntry m n) = module_entry_name (slice_get l
 name_in layout objects (link_fault.EntryElsewhere m n) = module_entry_name (slice_get layout.modules m) n
 name_in layout objects _ = None
 
+-- `?`
+abbrev pub question_mark : ℕ
+question_mark = 63
+
 -- a byte of a name as it is shown: `?` where it is no visible character
 abbrev pub shown_byte : ℕ → ℕ
-shown_byte b = if nat_le 0x21 b && nat_le b 0x7E then b else 63
+shown_byte b = if nat_le 0x21 b && nat_le b 0x7E then b else question_mark
 
 -- a fault that names no symbol shows none
 unfoldable pub symbol_name : LayoutValue → List ObjectValue → LinkFault → List ℕ
