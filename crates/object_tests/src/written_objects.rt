@@ -50,7 +50,7 @@ fn main_symbol(alloc: Global) -> Result<AsmSymbol, AllocError>
     })
 }
 
-#[tactic(auto, unfolding(asm_text::specs::Parts::is_name, asm_text::specs::Parts::is_name_byte))]
+#[tactic(auto, unfolding(asm_line::specs::Identifiers::is_name, asm_line::specs::Identifiers::is_name_byte))]
 fn row(alloc: Global) -> Result<AsmUnit, AllocError> {
     let mut sections = Vec::new(alloc);
     sections.push(section(alloc)?)?;
