@@ -7,7 +7,7 @@ ghost use Rattle.insn_decode.specs.Code.{words_of};
 ghost use Rattle.cpu_step.specs.Plan.{increment_of, reads_dst, writes_dst};
 ghost use Rattle.flow_rule.specs.Does.{place_val, past_val, stepped_val, lowered_val, reach_if, one_reach, plan_val};
 
-use crate::domain::{Core, get, plus, put};
+use crate::domain::{Core, get, plus, put, seen};
 use arrayvec::ArrayVec;
 use flow_rule::{Reach, Val};
 use insn_decode::{Insn, OneOp, Operand, TwoOp};
@@ -57,10 +57,10 @@ fn place(operand: Operand, core: &Core, ext: u16) -> Option<Val>
     ensures { result ≡ place_val operand core.now ext }
 {
     match operand {
-        Operand::Indexed { reg, x } => Some(plus(get(core, reg), x)),
+        Operand::Indexed { reg, x } => Some(plus(seen(core, reg), x)),
         Operand::Symbolic(x) => Some(Val::Known(ext.wrapping_add(x))),
         Operand::Absolute(x) => Some(Val::Known(x)),
-        Operand::Indirect(reg) | Operand::Increment(reg) => Some(get(core, reg)),
+        Operand::Indirect(reg) | Operand::Increment(reg) => Some(seen(core, reg)),
         Operand::Reg(_) | Operand::Const(_) | Operand::Imm(_) => None,
     }
 }

@@ -3,7 +3,7 @@
 ghost use Rattle.std.specs.Prelude.{◌≡◌, length, ◌≤◌, ◌<◌, ◌+◌, ◌*◌, ◌++◌, suc, take, drop, true, false};
 ghost use Rattle.std.specs.Prelude.{Some, None, ◌%◌, ◌∷◌, []};
 ghost use Rattle.sm_words.specs.Words.{add16, bit};
-ghost use Rattle.flow_rule.specs.Values.{is_secret, join, over_one, blurred, narrow, val};
+ghost use Rattle.flow_rule.specs.Values.{is_secret, join, over_one, blurred, narrow, seen, val};
 ghost use Rattle.flow_rule.specs.Values.{kept_val, put_val, join_each};
 ghost use Rattle.flow_rule.specs.Does.{half};
 ghost use Rattle.flow_check.specs.internal.Carries.{IsCarry};
@@ -130,6 +130,17 @@ fn even(value: Val) -> Val
     match value {
         Val::Known(v) => Val::Known(v - v % 2),
         _ => value,
+    }
+}
+
+/// What an operand sees of a register: of SR no more than whether it is equal in both runs.
+pub fn seen(core: &Core, n: u8) -> Val
+    ensures { result ≡ seen core.now n }
+{
+    if n == 2 {
+        blurred(get(core, 2))
+    } else {
+        get(core, n)
     }
 }
 

@@ -14,7 +14,7 @@ ghost use Rattle.flow_rule.specs.Does.{cleared_if, carry_val, one_done_val, does
 ghost use Rattle.flow_check.specs.internal.Carries.{IsCarry};
 
 use crate::accesses::{increment, lower, reads_destination, step_past, writes_destination};
-use crate::domain::{Core, blurred_all, carry, get, narrow, put};
+use crate::domain::{Core, blurred_all, carry, get, narrow, put, seen};
 use arm_balance::target;
 use arrayvec::ArrayVec;
 use cpu_step::{one_result, two_result};
@@ -197,7 +197,7 @@ fn given(operand: Operand, width: Width, core: &Core, values: &[Val]) -> Val
     ensures { result ≡ given_val operand width core.now values.now }
 {
     match operand {
-        Operand::Reg(reg) => narrow(width, get(core, reg)),
+        Operand::Reg(reg) => narrow(width, seen(core, reg)),
         Operand::Const(c) => Val::Known(low(width, c)),
         Operand::Imm(x) => Val::Known(low(width, x)),
         _ => narrow(width, first(values)),
@@ -359,7 +359,7 @@ fn finish_one(
 }
 
 /// The instruction at `pc`, once its reads gave these values; a jump is taken.
-#[tactic(auto, unfolding(flow_rule::specs::Does::does_val))]
+#[tactic(auto, unfolding(flow_rule::specs::Does::does_val_as))]
 pub fn does(insn: &Insn, pc: u16, core: &mut Core, values: &[Val]) -> Stored
     ensures core { core.new ≡ (does_val insn.now pc core.old values.now).core }
     ensures stored { result.items ≡ (does_val insn.now pc core.old values.now).stored }

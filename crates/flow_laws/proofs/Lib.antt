@@ -1,7 +1,10 @@
 pub mod Words
 pub mod Telling
 pub mod Labelling
+pub mod Ways
+pub mod Explorations
 pub mod Runs
+pub mod Told
 pub mod Instruction
 pub mod Decoding
 pub mod Starts

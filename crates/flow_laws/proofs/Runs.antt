@@ -10,7 +10,7 @@ use Rattle.flow_rule.specs.Iterations.{PointState, FlowStep}
 use Rattle.cpu_step.proofs.Alike.{ends_but}
 use Rattle.flow_laws.specs.Laws.{AgreeOn}
 use Rattle.flow_laws.proofs.Words.{IsData}
-use Rattle.flow_laws.proofs.Labelling.{Under, Among, Covered, Closed}
+use Rattle.flow_laws.proofs.Labelling.{Under, Among, CoveredBy, Closed}
 
 -- a module between two instructions
 abbrev pub at_rest : List ℕ → List ℕ → Lone
@@ -127,10 +127,10 @@ crossing_alike answers R m j k la lb ta tb pa pb n rest = by (cases_lt n k)
         (subst (λ o. ends_but answers R (laters k (outcome j i ta)) o) (sym (ap (λ x. outcome j x lb) (sym e) ∙ passes_far j k lb tb pb i))
         (laters_alike answers R k (outcome j i ta) (outcome j i tb) (rest i f)))
 
-module _ (terms : Terms) (m : Module) (j : Job) (own : j.owner ≡ m) (At : Standing) (step : PointState → FlowStep) (sound : Sound terms m j At step) (start : PointState) (xs : List PointState) (closed : Closed step start xs)
+module _ (terms : Terms) (m : Module) (j : Job) (own : j.owner ≡ m) (At : Standing) (step : PointState → FlowStep) (sound : Sound terms m j At step) (start : PointState) (P : PointState → Type 0) (closed : Closed step start P)
     (R : List ℕ → List ℕ → Type 0) (more : (da db : List ℕ) → IsData m da → IsData m db → AgreeOn m terms.public da db → R da db) where
   -- by the cycles that are left
-  from : (fuel n : ℕ) → n < fuel → (x : PointState) → Covered x xs → (ca da cb db : List ℕ) → At x ca da cb db → ends_but terms.answers R (outcome j n (at_rest ca da)) (outcome j n (at_rest cb db))
+  from : (fuel n : ℕ) → n < fuel → (x : PointState) → CoveredBy P x → (ca da cb db : List ℕ) → At x ca da cb db → ends_but terms.answers R (outcome j n (at_rest ca da)) (outcome j n (at_rest cb db))
   from zero n lt x c ca da cb db at = absurd (omega arith)
   from (suc fuel) n lt x c ca da cb db at =
       let y = c.point in

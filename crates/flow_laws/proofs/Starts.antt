@@ -10,7 +10,7 @@ use Rattle.cpu_step.specs.Lone.{Entrance, starts, job_of, outcome, IsEntry}
 use Rattle.flow_rule.specs.Terms.{Terms}
 use Rattle.flow_rule.specs.declared.Val.{Val}
 use Rattle.flow_rule.specs.declared.Val.TheVariants.{Away, Public, Secret}
-use Rattle.flow_rule.specs.Values.{val}
+use Rattle.flow_rule.specs.Values.{flags_in, val}
 use Rattle.flow_rule.specs.Stub.{word_number}
 use Rattle.flow_rule.specs.Verdict.{no_secret, start_point}
 use Rattle.cpu_step.proofs.Alike.{ends_but}
@@ -18,6 +18,8 @@ use Rattle.flow_laws.specs.Laws.{AgreeOn}
 use Rattle.flow_rule.proofs.Meaning.{Agrees}
 use Rattle.flow_laws.proofs.Words.{Shape, IsData}
 use Rattle.flow_laws.proofs.Telling.{opened_at}
+use Rattle.flow_laws.specs.Releases.{Release}
+use Rattle.flow_laws.proofs.Told.{EndsOr}
 use Rattle.flow_laws.proofs.Instruction.{AgreeAt}
 use Rattle.flow_rule.proofs.Stub.{StubFacts}
 use Rattle.flow_laws.proofs.Open.{HasEntry, AtStub}
@@ -46,22 +48,28 @@ starts_at s c pc e z (suc (suc (suc zero))) = (z, z)
 starts_at s c pc e z (suc (suc (suc (suc n)))) = publics s 12 n (reg c (suc (suc (suc (suc n)))))
 
 -- one core, and any data that agree on the public words
-one_core : (terms : Terms) (m : Module) (v : List Val) (c da db : List ℕ) (pc : ℕ) → length v ≤ 16 → length c ≡ 16 → ((n : ℕ) → Agrees m.text (val v n) (reg c n) (reg c n)) → reg c 2 < 512 → reg c 3 ≡ 0 → reg c 0 % 2 ≡ 0 → reg c 0 ≡ pc → holds m.text pc ≡ true →
-    IsData m da → IsData m db → AgreeOn m terms.public da db → AgreeAt m (start_point terms m pc v) c da c db
-one_core terms m v c da db pc short long at nine three even here inn pa pb agree =
+one_core : (known : ℕ) (terms : Terms) (m : Module) (v : List Val) (c da db : List ℕ) (pc : ℕ) → val v 2 ≡ Public → length v ≤ 16 → length c ≡ 16 → ((n : ℕ) → Agrees m.text (val v n) (reg c n) (reg c n)) → reg c 2 < 512 → reg c 3 ≡ 0 → reg c 0 % 2 ≡ 0 → reg c 0 ≡ pc → holds m.text pc ≡ true →
+    IsData m da → IsData m db → AgreeOn m terms.public da db → AgreeAt m (start_point known terms m pc v) c da c db
+one_core known terms m v c da db pc calm short long at nine three even here inn pa pb agree =
     record {
       pc_a = here;
       pc_b = here;
-      core = record { short = short; long_a = long; long_b = long; at = at; mode_same = refl; nine_a = nine; nine_b = nine; even_pc = even; zero_a = three; zero_b = three };
-      words = record { is_a = pa; is_b = pb; at = opened_at m terms.public (replicate 256 Secret) da db agree (λ i. secrets m.text 256 i _ _) };
+      core = record { short = short; long_a = long; long_b = long; at = λ n ne. at n; flags = subst (λ u. Agrees m.text u (flags_in (reg c 2)) (flags_in (reg c 2))) (sym calm) refl; mode_same = refl; nine_a = nine; nine_b = nine; even_pc = even; zero_a = three; zero_b = three };
+      words = record { is_a = pa; is_b = pb; at = opened_at m terms.public (replicate known Secret) da db agree (λ i. secrets m.text known i _ _) };
       in_text = inn;
     }
 
-pub begins_at : (terms : Terms) (m : Module) (c da db : List ℕ) (pc : ℕ) → IsCore c → reg c 0 ≡ pc → holds m.text pc ≡ true → IsData m da → IsData m db → AgreeOn m terms.public da db → AgreeAt m (start_point terms m pc (no_secret pc)) c da c db
-begins_at terms m c da db pc ok e t pa pb agree = one_core terms m (no_secret pc) c da db pc (omega arith) ok.sixteen (starts_at m.text c pc e ok.zero_three) ok.nine_bits ok.zero_three ok.even_pc e t pa pb agree
+pub begins_at : (known : ℕ) (terms : Terms) (m : Module) (c da db : List ℕ) (pc : ℕ) → IsCore c → reg c 0 ≡ pc → holds m.text pc ≡ true → IsData m da → IsData m db → AgreeOn m terms.public da db → AgreeAt m (start_point known terms m pc (no_secret pc)) c da c db
+begins_at known terms m c da db pc ok e t pa pb agree = one_core known terms m (no_secret pc) c da db pc refl (omega arith) ok.sixteen (starts_at m.text c pc e ok.zero_three) ok.nine_bits ok.zero_three ok.even_pc e t pa pb agree
 
 pub start_in : (m : Module) → m.text.start < m.text.end → holds m.text m.text.start ≡ true
 start_in m lt = grind (arith, nat_tests)
+
+-- the same, or a release tells the runs apart
+abbrev pub CallsOr : List Release → Terms → List ℕ → Module → List ℕ → Type 1
+CallsOr ps terms key m text = (n : ℕ) (R : List ℕ → List ℕ → Type 0) → ((da db : List ℕ) → IsData m da → IsData m db → AgreeOn m terms.public da db → R da db) →
+    (e : Entrance) → IsEntry m e → (da db : List ℕ) → IsData m da → IsData m db → AgreeOn m terms.public da db →
+    EndsOr ps terms.answers R (job_of key m text e.caller) n (starts e da) (starts e db)
 
 -- one call ends alike but for the answers; what it leaves may be any data that agree on the public words
 abbrev pub CallsAlike : Terms → List ℕ → Module → List ℕ → Type 1
@@ -81,13 +89,13 @@ away_start s c pc e z small out (suc (suc (suc (suc (suc (suc (suc zero))))))) =
 away_start s c pc e z small out (suc (suc (suc (suc (suc (suc (suc (suc n)))))))) = publics s 8 n (reg c (suc (suc (suc (suc (suc (suc (suc (suc n)))))))))
 
 -- where the start's own way through a stub ends
-pub stub_begins : (terms : Terms) (m : Module) (text : List ℕ) (n p : ℕ) → Shape m → StubFacts m text n p → (c da db : List ℕ) (six seven : ℕ) → seven < 65536 → holds m.text seven ≡ false → Calm c (m.text.start + 20) six seven → six < n → IsData m da → IsData m db → AgreeOn m terms.public da db →
-    AtStub m n (start_point terms m (m.text.start + 20) (set (no_secret (m.text.start + 20)) 7 Away)) c da c db
-stub_begins terms m text n p shape facts c da db six seven small out h few pa pb agree =
+pub stub_begins : (known : ℕ) (terms : Terms) (m : Module) (text : List ℕ) (n p : ℕ) → Shape m → StubFacts m text n p → (c da db : List ℕ) (six seven : ℕ) → seven < 65536 → holds m.text seven ≡ false → Calm c (m.text.start + 20) six seven → six < n → IsData m da → IsData m db → AgreeOn m terms.public da db →
+    AtStub m n (start_point known terms m (m.text.start + 20) (set (no_secret (m.text.start + 20)) 7 Away)) c da c db
+stub_begins known terms m text n p shape facts c da db six seven small out h few pa pb agree =
     let pc = m.text.start + 20 in
     let s0 = shape.text_start in
     record {
-      agree = one_core terms m (set (no_secret pc) 7 Away) c da db pc (omega arith) h.long (away_start m.text c pc h.here h.three (subst (λ i. i < 65536) (sym h.seven_is) small) (ap (λ i. holds m.text i) h.seven_is ∙ out))
+      agree = one_core known terms m (set (no_secret pc) 7 Away) c da db pc refl (omega arith) h.long (away_start m.text c pc h.here h.three (subst (λ i. i < 65536) (sym h.seven_is) small) (ap (λ i. holds m.text i) h.seven_is ∙ out))
           h.nine h.three (ap (λ i. i % 2) h.here ∙ even_20) h.here inside pa pb agree;
       entry = λ low. subst (λ k. HasEntry n (k == 17) k c c) (sym at_10) (inl refl, subst (λ i. i < n) (sym h.six_is) few, refl);
     }

@@ -8,14 +8,14 @@ use Rattle.mod_layout.specs.declared.Section.{Section}
 use Rattle.mod_layout.specs.declared.Module.{Module}
 use Rattle.cpu_step.specs.Lone.{blank}
 use Rattle.flow_rule.specs.declared.Val.{Val}
-use Rattle.flow_rule.specs.declared.Val.TheVariants.{Public, Secret}
-use Rattle.flow_rule.specs.Values.{is_secret, set_each, val}
+use Rattle.flow_rule.specs.declared.Val.TheVariants.{Known, Away, Public, Secret}
+use Rattle.flow_rule.specs.Values.{blurred, is_secret, set_each, seen, val}
 use Rattle.flow_rule.specs.declared.Reason.TheVariants.{SecretAtExit, DataAtExit}
 use Rattle.flow_rule.specs.Does.{word_no}
 use Rattle.flow_rule.specs.Violations.{violation, violation_if, exit_violations, word_violations}
 use Rattle.flow_laws.specs.Laws.{AgreeOn}
 use Rattle.flow_rule.proofs.Meaning.{Agrees, same, set_holds}
-use Rattle.flow_rule.proofs.Cores.{AgreeCore}
+use Rattle.flow_rule.proofs.Cores.{AgreeCore, seen_agrees}
 use Rattle.flow_rule.proofs.Plans.{none_left, none_right, none_if}
 use Rattle.flow_laws.proofs.Words.{word, AgreeData}
 
@@ -68,10 +68,23 @@ no_secret (suc k) n pc v e i low high = by (is_secret (val v n)) refl e (cases_l
     by false f e (inl lt) go = go e lt
     by false f e (inr ge) go = let g : i ≡ n = omega arith in ap (λ x. is_secret (val v x)) g ∙ f
 
+seen_so : (v : List Val) (k : ℕ) → is_secret (val v k) ≡ false → is_secret (seen v k) ≡ false
+seen_so v k e = by (k == 2) refl
+  where
+    flags : (u : Val) → is_secret u ≡ false → is_secret (blurred (u ∷ [])) ≡ false
+    flags Secret e = absurd cc
+    flags (Known f) e = refl
+    flags Away e = refl
+    flags Public e = refl
+
+    by : (c : Bool) → (k == 2) ≡ c → is_secret (cond c (blurred (val v 2 ∷ [])) (val v k)) ≡ false
+    by true f = let i : k ≡ 2 = grind (arith, nat_tests) in flags (val v 2) (ap (λ n. is_secret (val v n)) (sym i) ∙ e)
+    by false f = e
+
 -- a register that is no answer is equal where a call ends
 pub same_reg : (s : Section) (answers : List ℕ) (pc : ℕ) (v : List Val) (ca cb : List ℕ) → AgreeCore s v ca cb → exit_violations 16 0 pc (set_each answers Public v) ≡ [] → (k : ℕ) → k < 16 → on_list answers k ≡ false → reg ca k ≡ reg cb k
 same_reg s answers pc v ca cb h e k lt off =
-    same s (val v k) (reg ca k) (reg cb k) (h.at k) (ap is_secret (sym (val_bare answers v k off)) ∙ no_secret 16 0 pc (set_each answers Public v) e k (omega arith) (omega arith))
+    same s (seen v k) (reg ca k) (reg cb k) (seen_agrees s v ca cb k h) (seen_so v k (ap is_secret (sym (val_bare answers v k off)) ∙ no_secret 16 0 pc (set_each answers Public v) e k (omega arith) (omega arith)))
 
 pub same_but : (s : Section) (answers : List ℕ) (pc : ℕ) (v : List Val) (ca cb : List ℕ) → AgreeCore s v ca cb → exit_violations 16 0 pc (set_each answers Public v) ≡ [] → blank answers ca ≡ blank answers cb
 same_but s answers pc v ca cb h e = blanked answers ca cb h.long_a h.long_b (λ k lt off. same_reg s answers pc v ca cb h e k lt off)

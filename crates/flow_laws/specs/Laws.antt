@@ -1,5 +1,5 @@
 -- What an accepted text is: even for every two data, or but for the answers.
-use Rattle.std.specs.Prelude.{◌≡◌, ◌<◌, ◌*◌, ℕ, List, length, slice_index, All}
+use Rattle.std.specs.Prelude.{◌≡◌, ◌<◌, ◌*◌, ◌/◌, ◌⊎◌, ℕ, Bool, List, [], ◌∷◌, length, slice_index, All}
 use Rattle.sm_words.specs.Words.{word_at}
 use Rattle.mod_layout.specs.declared.Module.{Module}
 use Rattle.mod_layout.specs.Table.{size_of}
@@ -10,6 +10,12 @@ use Rattle.flow_rule.specs.declared.Verdict.TheVariants.{Yes}
 use Rattle.arm_balance.specs.declared.Arm.{Arm}
 use Rattle.flow_rule.specs.Does.{word_no}
 use Rattle.flow_rule.specs.Arms.{VerdictWith, VerdictUnder}
+use Rattle.flow_rule.specs.Iterations.{PointState}
+use Rattle.flow_rule.specs.Exploring.{Complete, explore, explored}
+use Rattle.flow_rule.specs.Verdict.{start_knowing}
+use Rattle.flow_rule.specs.Arms.{flow_under_as}
+use Rattle.flow_rule.specs.Values.{followed}
+use Rattle.flow_laws.specs.Releases.{Release, releasing, ToldApart}
 
 -- a section's bytes
 pub record IsData (m : Module) (d : List ℕ) : Type 0 where
@@ -52,3 +58,19 @@ Released = (terms : Terms) (m : Module) (text : List ℕ) (arms : List Arm) → 
 -- and each call keeps that they agree
 abbrev pub Kept : Type 0
 Kept = (terms : Terms) (m : Module) (text : List ℕ) (arms : List Arm) → IsSection m.text → IsSection m.ram → VerdictUnder terms m text arms Yes → KeptUnder terms m text
+
+-- the same of a text whose exploration is complete, whatever states are kept
+abbrev pub UnrolledReleased : Type 0
+UnrolledReleased = (terms : Terms) (m : Module) (text : List ℕ) (arms : List Arm) (keeps : PointState → Bool) (steps : ℕ) (kept : List PointState) → IsSection m.text → IsSection m.ram → explored terms m text arms keeps steps ≡ Complete kept → EvenUnder terms m text
+
+abbrev pub UnrolledKept : Type 0
+UnrolledKept = (terms : Terms) (m : Module) (text : List ℕ) (arms : List Arm) (keeps : PointState → Bool) (steps : ℕ) (kept : List PointState) → IsSection m.text → IsSection m.ram → explored terms m text arms keeps steps ≡ Complete kept → KeptUnder terms m text
+
+-- explored under releases: a call from two data that agree on the public words ends alike but for the answers and leaves two such data,
+-- or a release tells the two apart
+abbrev pub Delimited : Type 0
+Delimited = (ps : List Release) (terms : Terms) (m : Module) (text : List ℕ) (arms : List Arm) (keeps : PointState → Bool) (steps : ℕ) (kept : List PointState) → IsSection m.text → IsSection m.ram →
+    explore (releasing ps (flow_under_as followed terms m text arms)) keeps steps (start_knowing (size_of m.ram / 2) terms m text ∷ []) [] ≡ Complete kept →
+    (key d1 d2 : List ℕ) → IsData m d1 → IsData m d2 → AgreeOn m terms.public d1 d2 → (e : Entrance) → IsEntry m e → (n : ℕ) →
+    let j = job_of key m text e.caller in
+    alike_but terms.answers (λ c c' x y. IsData m x × IsData m y × AgreeOn m terms.public x y) (outcome j n (starts e d1)) (outcome j n (starts e d2)) ⊎ ToldApart ps j (starts e d1) (starts e d2) n

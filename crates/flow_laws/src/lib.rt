@@ -1,7 +1,8 @@
 //! The laws of the rule of flow: a text that it accepts is even for every two data.
 #![tactic(auto)]
 
-ghost use Rattle.flow_laws.specs.Laws.{Evenness, Released, Kept};
+ghost use Rattle.flow_laws.specs.Loop.{LoopComplete};
+ghost use Rattle.flow_laws.specs.Laws.{Evenness, Released, Kept, UnrolledReleased, UnrolledKept, Delimited};
 
 /// Where the verdict is yes, whatever the certificates, no list of calls tells two data apart, under any key.
 pub fn evenness()
@@ -13,4 +14,20 @@ pub fn evenness()
 pub fn released()
     ensures even { Released }
     ensures kept { Kept }
+{}
+
+/// The same where the text is unrolled under terms.
+pub fn unrolled()
+    ensures even { UnrolledReleased }
+    ensures kept { UnrolledKept }
+{}
+
+/// A counted loop is explored to its end.
+pub fn counted_loop()
+    ensures complete { LoopComplete }
+{}
+
+/// Under releases two runs end alike, unless a released value differs.
+pub fn delimited()
+    ensures told { Delimited }
 {}

@@ -87,7 +87,7 @@ over_one_keeps f Public v p = tt
 over_one_keeps f Secret v p = tt
 over_one_keeps f _ _ p = absurd p
 
-blurred_keeps : (t v : Val) → AbsorbsVal t v → AbsorbsVal (blurred (t ∷ [])) (blurred (v ∷ []))
+pub blurred_keeps : (t v : Val) → AbsorbsVal t v → AbsorbsVal (blurred (t ∷ [])) (blurred (v ∷ []))
 blurred_keeps Secret v p = tt
 blurred_keeps (Known a) Secret p = absurd p
 blurred_keeps Away Secret p = absurd p

@@ -25,20 +25,27 @@ use Rattle.flow_rule.specs.declared.Val.{Val}
 use Rattle.flow_rule.specs.declared.Val.TheVariants.{Known, Away, Public, Secret}
 use Rattle.flow_rule.specs.declared.Reach.{Reach}
 use Rattle.flow_rule.specs.declared.Told.{Told}
-use Rattle.flow_rule.specs.Values.{over_one, blurred, val, put_val}
-use Rattle.flow_rule.specs.Does.{place_val, stepped_val, lowered_val, reach_if, one_reach, plan_val, word_no, half, read_at, read_val, write_at, writes_val, Done_val, reads_carry, sets_flags, one_reads_carry, one_sets_flags, read_if, told_of, two_val, one_val, set_flags_by, given_val, after_val, into_register_val, written_val, clears, clears_flags, cleared_if, carry_val, one_done_val, does_val}
+use Rattle.flow_rule.specs.Values.{over_one, blurred, val, seen, put_val}
+use Rattle.flow_rule.specs.Does.{place_val, stepped_val, lowered_val, reach_if, one_reach, plan_val, word_no, half, read_at, read_val, write_at, writes_val, Done_val, reads_carry, sets_flags, one_reads_carry, one_sets_flags, read_if, told_of, two_val, one_val, set_flags_by, given_val, after_val, into_register_val, written_val, clears, clears_flags, cleared_if, carry_val, one_done_val, does_val, does_val_as}
 use Rattle.flow_rule.specs.Violations.{reach_violations, reach_violations_by}
 use Rattle.flow_rule.proofs.Plans.{none_left, none_right}
-use Rattle.flow_rule.proofs.Absorbing.{AbsorbsVal, AbsorbsEach, AbsorbsOption, over_keeps, over_one_keeps, blurred_all_keeps, narrow_keeps, nth_keeps, set_keeps, drop_keeps, put_keeps, past_keeps, EvenPc, put_even, past_even}
+use Rattle.flow_rule.proofs.Absorbing.{AbsorbsVal, AbsorbsEach, AbsorbsOption, over_keeps, over_one_keeps, blurred_keeps, blurred_all_keeps, narrow_keeps, nth_keeps, set_keeps, drop_keeps, put_keeps, past_keeps, EvenPc, put_even, past_even}
 
 -- ---- accesses
+seen_keeps : (ts vs : List Val) (r : ℕ) → AbsorbsEach ts vs → AbsorbsVal (seen ts r) (seen vs r)
+seen_keeps ts vs r p = by (r == 2)
+  where
+    by : (c : Bool) → AbsorbsVal (cond c (blurred (val ts 2 ∷ [])) (val ts r)) (cond c (blurred (val vs 2 ∷ [])) (val vs r))
+    by true = blurred_keeps (val ts 2) (val vs 2) (nth_keeps ts vs 2 p)
+    by false = nth_keeps ts vs r p
+
 place_keeps : (o : Operand) (ts vs : List Val) (ext : ℕ) → AbsorbsEach ts vs →
     AbsorbsOption (place_val o ts ext) (place_val o vs ext)
-place_keeps (Indexed r x) ts vs ext p = over_one_keeps (λ v. add16 v x) (val ts r) (val vs r) (nth_keeps ts vs r p)
+place_keeps (Indexed r x) ts vs ext p = over_one_keeps (λ v. add16 v x) (seen ts r) (seen vs r) (seen_keeps ts vs r p)
 place_keeps (Symbolic x) ts vs ext p = refl
 place_keeps (Absolute x) ts vs ext p = refl
-place_keeps (Indirect r) ts vs ext p = nth_keeps ts vs r p
-place_keeps (Increment r) ts vs ext p = nth_keeps ts vs r p
+place_keeps (Indirect r) ts vs ext p = seen_keeps ts vs r p
+place_keeps (Increment r) ts vs ext p = seen_keeps ts vs r p
 place_keeps (Reg r) ts vs ext p = tt
 place_keeps (Const c) ts vs ext p = tt
 place_keeps (Imm x) ts vs ext p = tt
@@ -212,7 +219,7 @@ flags_even (Some f) ts h = put_even ts 2 f h
 
 given_keeps : (o : Operand) (w : Width) (ts vs xs ys : List Val) → AbsorbsEach ts vs → AbsorbsEach xs ys →
     AbsorbsVal (given_val o w ts xs) (given_val o w vs ys)
-given_keeps (Reg r) w ts vs xs ys p q = narrow_keeps w _ _ (nth_keeps ts vs r p)
+given_keeps (Reg r) w ts vs xs ys p q = narrow_keeps w _ _ (seen_keeps ts vs r p)
 given_keeps (Const c) w ts vs xs ys p q = refl
 given_keeps (Imm x) w ts vs xs ys p q = refl
 given_keeps o w ts vs xs ys p q = narrow_keeps w _ _ (nth_keeps xs ys 0 q)
@@ -317,7 +324,7 @@ one_done_keeps op w arg a c a' c' ts vs p q r h = written_keeps true arg _ _ ts 
 
 pub does_keeps : (insn : Insn) (pc : ℕ) (ts vs xs ys : List Val) → AbsorbsEach ts vs → AbsorbsEach xs ys →
     Kept (does_val insn pc ts xs) (does_val insn pc vs ys)
-unfolding does_val
+unfolding does_val_as
 does_keeps (Two op w s d) pc ts vs xs ys p q =
     let p1 = past_keeps (Two op w s d) pc ts vs p in
     let p2 = stepped_keeps w s _ _ p1 in

@@ -1,6 +1,7 @@
 pub mod Meaning
 pub mod Goes
 pub mod Cores
+pub mod Keepings
 pub mod Effects
 pub mod Plans
 pub mod Stub

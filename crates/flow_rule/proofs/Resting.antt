@@ -251,7 +251,7 @@ module _ (terms : Terms) (m : Module) (text : List ℕ) where
           ≡ Some next) e on in absurd cc
 
   stub_alike : m.text.start % 2 ≡ 0 → has_stub m text ≡ true → Alike (step_stub terms m text)
-  unfolding step_stub
+  unfolding step_stub step_of
   stub_alike start stub join next pc r q top low even inn on o none g =
       by (word_number m pc == 17) (is_open (word_number m pc)) refl none g
     where

@@ -18,14 +18,14 @@ use Rattle.flow_rule.specs.Terms.{Terms, no_terms}
 use Rattle.flow_rule.specs.declared.AbstractState.{AbstractState}
 use Rattle.flow_rule.specs.declared.Val.{Val}
 use Rattle.flow_rule.specs.declared.Val.TheVariants.{Known, Secret}
-use Rattle.flow_rule.specs.Values.{is_secret, set_each, val, put_val}
+use Rattle.flow_rule.specs.Values.{Keeping, is_secret, set_each, val, put_val}
 use Rattle.flow_rule.specs.declared.Reason.TheVariants.{Arm as ArmInsn, ArmTime}
 use Rattle.flow_rule.specs.Iterations.{PointState, RuleViolation, FlowStep}
 use Rattle.flow_rule.specs.declared.Reach.{Reach}
 use Rattle.flow_rule.specs.Does.{plan_val, write_reaches, word_no, does_val, past_val}
 use Rattle.flow_rule.specs.declared.Verdict.{Verdict}
 use Rattle.flow_rule.specs.Violations.{violation, violation_if}
-use Rattle.flow_rule.specs.Verdict.{start_under, flow_step, Decided}
+use Rattle.flow_rule.specs.Verdict.{start_under, flow_step, flow_step_as, Decided}
 
 -- what an instruction writes
 abbrev pub stepped_regs : Operand → List ℕ
@@ -136,6 +136,9 @@ unfoldable pub step_arms : (PointState → FlowStep) → List Arm → Module →
 step_arms step arms m text x = step_arms_by (met m.text text x.point.addr) step arms m text x
 
 -- the step under terms and with certificates
+abbrev pub flow_under_as : Keeping → Terms → Module → List ℕ → List Arm → PointState → FlowStep
+flow_under_as k terms m text arms = step_arms (flow_step_as k terms m text) arms m text
+
 abbrev pub flow_under : Terms → Module → List ℕ → List Arm → PointState → FlowStep
 flow_under terms m text arms = step_arms (flow_step terms m text) arms m text
 

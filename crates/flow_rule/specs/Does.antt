@@ -1,11 +1,11 @@
 -- The transfer functions: what an instruction reaches and does, over abstract values.
 use Rattle.flow_rule.specs.declared.Reach.{Reach}
 use Rattle.flow_rule.specs.declared.Told.{Told}
-use Rattle.std.specs.Prelude.{ℕ, ◌-◌, ◌*◌, ◌/◌, ◌%◌, List, [], ◌∷◌, ◌++◌, drop, filter, fold, zip, slice_set, ◌==◌, if◌then◌else◌, Bool, true, false, ◌&&◌, ◌||◌, not, Option, Some, None}
+use Rattle.std.specs.Prelude.{ℕ, ◌+◌, ◌-◌, ◌*◌, ◌/◌, ◌%◌, List, [], ◌∷◌, ◌++◌, drop, filter, fold, zip, slice_set, ◌==◌, if◌then◌else◌, Bool, true, false, ◌&&◌, ◌||◌, not, Option, Some, None}
 use Rattle.sm_words.specs.Words.{nth, add16, bit, word_at}
 use Rattle.insn_decode.specs.Code.{words_of, length_of, distance}
 use Rattle.sm_words.specs.Status.{has_all_flags}
-use Rattle.sm_words.specs.Sums.{low}
+use Rattle.sm_words.specs.Sums.{low, one_if}
 use Rattle.cpu_step.specs.declared.result.Computed.{Computed}
 use Rattle.cpu_step.specs.Effect.{value_of, two_result, one_result, in_memory}
 use Rattle.cpu_step.specs.Plan.{increment_of, reads_dst, writes_dst}
@@ -27,17 +27,18 @@ use Rattle.mod_layout.specs.Table.{holds}
 use Rattle.arm_balance.specs.Met.{text_byte}
 use Rattle.pc_access.specs.Rights.{misaligned}
 use Rattle.flow_rule.specs.declared.Val.{Val}
-use Rattle.flow_rule.specs.declared.Val.TheVariants.{Known, Public, Secret}
-use Rattle.flow_rule.specs.Values.{over, over_one, blurred, narrow, val, put_val}
+use Rattle.flow_rule.specs.declared.Val.TheVariants.{Known, Secret}
+use Rattle.flow_rule.specs.Values.{over, over_one, blurred, narrow, val, seen, put_val, Keeping, forgotten}
+use Rattle.cpu_step.specs.declared.result.Computed.TheVariants.{Plain, Flagged}
 
 -- ---- accesses
 
 abbrev pub place_val : Operand → List Val → ℕ → Option Val
-place_val (Indexed r x) core ext = Some (over_one (λ v. add16 v x) (val core r))
+place_val (Indexed r x) core ext = Some (over_one (λ v. add16 v x) (seen core r))
 place_val (Symbolic x) core ext = Some (Known (add16 ext x))
 place_val (Absolute x) core ext = Some (Known x)
-place_val (Indirect r) core ext = Some (val core r)
-place_val (Increment r) core ext = Some (val core r)
+place_val (Indirect r) core ext = Some (seen core r)
+place_val (Increment r) core ext = Some (seen core r)
 place_val _ core ext = None
 
 abbrev pub past_val : Insn → ℕ → List Val → List Val
@@ -146,25 +147,30 @@ one_sets_flags _ = false
 abbrev pub read_if : Bool → Val → Val
 read_if b v = if b then v else Known 0
 
+-- a result's flags
+abbrev pub flags_of : Computed → ℕ
+flags_of (Plain v) = 0
+flags_of (Flagged s) = 1 * one_if s.c + 2 * one_if s.z + 4 * one_if s.n + 256 * one_if s.v
+
 -- what is told of an operation of three values, where it sets flags or not
-abbrev pub told_of : Bool → (ℕ → ℕ → ℕ → Computed) → Val → Val → Val → Told
-told_of sets f a b c =
-    record { value = over (λ x y z. value_of (f x y z)) a b c; flags = if sets then Some (blurred (a ∷ b ∷ c ∷ [])) else None }
+abbrev pub told_of_as : Keeping → Bool → (ℕ → ℕ → ℕ → Computed) → Val → Val → Val → Told
+told_of_as k sets f a b c =
+    record { value = over (λ x y z. value_of (f x y z)) a b c; flags = if sets then Some (k.told (λ x y z. flags_of (f x y z)) a b c) else None }
 
 -- a word MOV copies
-abbrev pub two_val : TwoOp → Width → Val → Val → Val → Told
-two_val Mov Word s d c = record { value = s; flags = None }
-two_val op w s d c = told_of (sets_flags op) (two_result op w) s (read_if (reads_dst op) d) (read_if (reads_carry op) c)
+abbrev pub two_val_as : Keeping → TwoOp → Width → Val → Val → Val → Told
+two_val_as k Mov Word s d c = record { value = s; flags = None }
+two_val_as k op w s d c = told_of_as k (sets_flags op) (two_result op w) s (read_if (reads_dst op) d) (read_if (reads_carry op) c)
 
-abbrev pub one_val : OneOp → Width → Val → Val → Told
-one_val op w a c = told_of (one_sets_flags op) (λ x y z. one_result op w x y) a (read_if (one_reads_carry op) c) (Known 0)
+abbrev pub one_val_as : Keeping → OneOp → Width → Val → Val → Told
+one_val_as k op w a c = told_of_as k (one_sets_flags op) (λ x y z. one_result op w x y) a (read_if (one_reads_carry op) c) (Known 0)
 
-abbrev pub set_flags_by : Option Val → List Val → List Val
-set_flags_by None core = core
-set_flags_by (Some f) core = put_val core 2 f
+abbrev pub set_flags_by_as : Keeping → Option Val → List Val → List Val
+set_flags_by_as k None core = core
+set_flags_by_as k (Some f) core = slice_set core 2 (k.held f)
 
 abbrev pub given_val : Operand → Width → List Val → List Val → Val
-given_val (Reg r) w core values = narrow w (val core r)
+given_val (Reg r) w core values = narrow w (seen core r)
 given_val (Const c) w core values = Known (low w c)
 given_val (Imm x) w core values = Known (low w x)
 given_val _ w core values = narrow w (nth 0 values Secret)
@@ -173,15 +179,15 @@ abbrev pub after_val : Operand → List Val → List Val
 after_val o values = if in_memory o then drop 1 values else values
 
 -- a result put into a register: SR keeps what is written there, without flags
-abbrev pub into_register_val : Bool → ℕ → Told → List Val → List Val
-into_register_val true r res core = put_val core 2 res.value
-into_register_val false r res core = put_val (set_flags_by res.flags core) r res.value
+abbrev pub into_register_val_as : Keeping → Bool → ℕ → Told → List Val → List Val
+into_register_val_as k true r res core = slice_set core 2 (k.held res.value)
+into_register_val_as k false r res core = put_val (set_flags_by_as k res.flags core) r res.value
 
-abbrev pub written_val : Bool → Operand → Told → List Val → Done_val
-written_val true (Reg r) res core =
-    record { core = into_register_val (r == 2) r res core; stored = [] }
-written_val true _ res core = record { core = set_flags_by res.flags core; stored = res.value ∷ [] }
-written_val false _ res core = record { core = set_flags_by res.flags core; stored = [] }
+abbrev pub written_val_as : Keeping → Bool → Operand → Told → List Val → Done_val
+written_val_as k true (Reg r) res core =
+    record { core = into_register_val_as k (r == 2) r res core; stored = [] }
+written_val_as k true _ res core = record { core = set_flags_by_as k res.flags core; stored = res.value ∷ [] }
+written_val_as k false _ res core = record { core = set_flags_by_as k res.flags core; stored = [] }
 
 -- a word BIC to SR whose source has all four flags makes them 0 in both runs
 abbrev pub clears : Val → Bool
@@ -192,31 +198,59 @@ abbrev pub clears_flags : TwoOp → Width → Operand → Val → Bool
 clears_flags Bic Word (Reg r) s = (r == 2) && clears s
 clears_flags _ w d s = false
 
-abbrev pub cleared_if : Bool → Done_val → Done_val
-cleared_if c x = record { core = if c then put_val x.core 2 Public else x.core; stored = x.stored }
+abbrev pub cleared_if_as : Keeping → Bool → Done_val → Done_val
+cleared_if_as k c x = record { core = if c then slice_set x.core 2 k.cleared else x.core; stored = x.stored }
 
 -- the carry, as the flags' value has it
 abbrev pub carry_val : List Val → Val
 carry_val core = over_one (bit 1) (val core 2)
 
 -- format II, where the operand is read and its increment is done
-abbrev pub one_done_val : OneOp → Width → Operand → Val → Val → List Val → Done_val
-one_done_val Push w arg a c core = record { core = lowered_val core; stored = over_one (λ v. v) a ∷ [] }
-one_done_val Call w arg a c core = record { core = put_val (lowered_val core) 0 a; stored = val core 0 ∷ [] }
-one_done_val op w arg a c core = written_val true arg (one_val op w a c) core
+abbrev pub one_done_val_as : Keeping → OneOp → Width → Operand → Val → Val → List Val → Done_val
+one_done_val_as k Push w arg a c core = record { core = lowered_val core; stored = over_one (λ v. v) a ∷ [] }
+one_done_val_as k Call w arg a c core = record { core = put_val (lowered_val core) 0 a; stored = val core 0 ∷ [] }
+one_done_val_as k op w arg a c core = written_val_as k true arg (one_val_as k op w a c) core
 
-unfoldable pub does_val : Insn → ℕ → List Val → List Val → Done_val
-does_val (Two op w s d) pc core values =
+unfoldable pub does_val_as : Keeping → Insn → ℕ → List Val → List Val → Done_val
+does_val_as k (Two op w s d) pc core values =
     let core1 = past_val (Two op w s d) pc core in
     let core2 = stepped_val w s core1 in
     let a = given_val s w core1 values in
     let b = given_val d w core2 (after_val s values) in
-    cleared_if (clears_flags op w d a) (written_val (writes_dst op) d (two_val op w a b (carry_val core)) core2)
-does_val (One op w arg) pc core values =
+    cleared_if_as k (clears_flags op w d a) (written_val_as k (writes_dst op) d (two_val_as k op w a b (carry_val core)) core2)
+does_val_as k (One op w arg) pc core values =
     let core1 = past_val (One op w arg) pc core in
     let core2 = stepped_val w arg core1 in
     let a = given_val arg w core1 values in
-    one_done_val op w arg a (carry_val core) core2
-does_val (Jump condition off) pc core values =
+    one_done_val_as k op w arg a (carry_val core) core2
+does_val_as k (Jump condition off) pc core values =
     record { core = put_val (past_val (Jump condition off) pc core) 0 (Known (add16 (add16 pc 2) (distance off))); stored = [] }
-does_val insn pc core values = record { core = past_val insn pc core; stored = [] }
+does_val_as k insn pc core values = record { core = past_val insn pc core; stored = [] }
+
+-- ---- the rule that forgets the flags
+abbrev pub told_of : Bool → (ℕ → ℕ → ℕ → Computed) → Val → Val → Val → Told
+told_of x0 x1 x2 x3 x4 = told_of_as forgotten x0 x1 x2 x3 x4
+
+abbrev pub two_val : TwoOp → Width → Val → Val → Val → Told
+two_val x0 x1 x2 x3 x4 = two_val_as forgotten x0 x1 x2 x3 x4
+
+abbrev pub one_val : OneOp → Width → Val → Val → Told
+one_val x0 x1 x2 x3 = one_val_as forgotten x0 x1 x2 x3
+
+abbrev pub set_flags_by : Option Val → List Val → List Val
+set_flags_by x0 x1 = set_flags_by_as forgotten x0 x1
+
+abbrev pub into_register_val : Bool → ℕ → Told → List Val → List Val
+into_register_val x0 x1 x2 x3 = into_register_val_as forgotten x0 x1 x2 x3
+
+abbrev pub written_val : Bool → Operand → Told → List Val → Done_val
+written_val x0 x1 x2 x3 = written_val_as forgotten x0 x1 x2 x3
+
+abbrev pub cleared_if : Bool → Done_val → Done_val
+cleared_if x0 x1 = cleared_if_as forgotten x0 x1
+
+abbrev pub one_done_val : OneOp → Width → Operand → Val → Val → List Val → Done_val
+one_done_val x0 x1 x2 x3 x4 x5 = one_done_val_as forgotten x0 x1 x2 x3 x4 x5
+
+abbrev pub does_val : Insn → ℕ → List Val → List Val → Done_val
+does_val x0 x1 x2 x3 = does_val_as forgotten x0 x1 x2 x3

@@ -7,13 +7,13 @@ use Rattle.entry_stubs.specs.Stub.{body_word}
 use Rattle.flow_rule.specs.Terms.{Terms}
 use Rattle.flow_rule.specs.declared.Val.{Val}
 use Rattle.flow_rule.specs.declared.Val.TheVariants.{Known, Away, Public, Secret}
-use Rattle.flow_rule.specs.Values.{set_each}
+use Rattle.flow_rule.specs.Values.{Keeping, set_each}
 use Rattle.flow_rule.specs.declared.Reason.TheVariants.{TooMany}
 use Rattle.flow_rule.specs.Iterations.{PointState, RuleViolation, FlowStep, IsLabelling, iterations, all_violations}
 use Rattle.flow_rule.specs.Does.{word_no}
 use Rattle.flow_rule.specs.Violations.{BeforeAll, AmongThem}
-use Rattle.flow_rule.specs.Steps.{step_of}
-use Rattle.flow_rule.specs.Stub.{has_stub, step_stub}
+use Rattle.flow_rule.specs.Steps.{step_of, step_of_as}
+use Rattle.flow_rule.specs.Stub.{has_stub, step_stub, step_stub_as}
 
 -- of how many data words, from the first on, a state knows something
 abbrev pub known_words : ℕ
@@ -28,17 +28,23 @@ abbrev pub no_secret : ℕ → List Val
 no_secret pc = Known pc ∷ Public ∷ Public ∷ Known 0 ∷ replicate 12 Public
 
 -- a program point with nothing known of the data but that the public words are equal
-abbrev pub start_point : Terms → Module → ℕ → List Val → PointState
-start_point terms m pc core = record { point = record { addr = pc; call_string = [] }; state = record { core = core; words = set_each (map (word_no m) terms.public) Public (replicate known_words Secret) } }
+abbrev pub start_point : ℕ → Terms → Module → ℕ → List Val → PointState
+start_point known terms m pc core = record { point = record { addr = pc; call_string = [] }; state = record { core = core; words = set_each (map (word_no m) terms.public) Public (replicate known Secret) } }
 
--- the start: no return address, nothing secret in the registers and flags; behind a stub's first words R7 is Away
-abbrev pub start_under : Terms → Module → List ℕ → PointState
-start_under terms m text =
+-- the start, where so many words are known of: no return address, nothing secret in the registers and flags; behind a stub's first words R7 is Away
+abbrev pub start_knowing : ℕ → Terms → Module → List ℕ → PointState
+start_knowing known terms m text =
     let t = m.text.start in
     let body = t + 2 * body_word in
-    if has_stub m text then start_point terms m body (slice_set (no_secret body) 7 Away) else start_point terms m t (no_secret t)
+    if has_stub m text then start_point known terms m body (slice_set (no_secret body) 7 Away) else start_point known terms m t (no_secret t)
+
+abbrev pub start_under : Terms → Module → List ℕ → PointState
+start_under terms m text = start_knowing known_words terms m text
 
 -- the step of a text, with or without a stub
+abbrev pub flow_step_as : Keeping → Terms → Module → List ℕ → PointState → FlowStep
+flow_step_as k terms m text = if has_stub m text then step_stub_as k terms m text else step_of_as k terms m text
+
 abbrev pub flow_step : Terms → Module → List ℕ → PointState → FlowStep
 flow_step terms m text = if has_stub m text then step_stub terms m text else step_of terms m text
 
