@@ -2,6 +2,7 @@
 use Rattle.std.proofs.Common.{◌≡◌, ℕ, zero, suc, Bool, true, false, MatchBool, List, [], ◌∷◌, ◌++◌, refl, sym, ◌∙◌, subst}
 use Rattle.std.specs.List.{list_any}
 use Rattle.arm_balance.specs.declared.Arm.{Arm}
+use Rattle.flow_rule.specs.Values.{blurred_flags}
 use Rattle.flow_rule.specs.declared.Verdict.{Verdict}
 use Rattle.flow_rule.specs.Arms.{VerdictUnder, flow_under}
 use Rattle.flow_rule.specs.Terms.{Terms}
@@ -15,11 +16,11 @@ use Rattle.cli_calls.specs.Offers.{terms_by, names, standing_terms, IsOffered}
 module _ (owner : Module) (text : List ℕ) (arms : List Arm) (granted : List Term) where
   one_under : (terms : Terms) (v w : Verdict) → VerdictUnder terms owner text arms v
       → VerdictUnder terms owner text arms w → v ≡ w
-  one_under terms v w r s = one_verdict (flow_under terms owner text arms) (start_under terms owner text)
+  one_under terms v w r s = one_verdict (flow_under blurred_flags terms owner text arms) (start_under terms owner text)
       owner.text.start v w r s
 
   some_under : (terms : Terms) → (v : Verdict) × VerdictUnder terms owner text arms v
-  some_under terms = some_verdict (flow_under terms owner text arms) (start_under terms owner text) owner.text.start
+  some_under terms = some_verdict (flow_under blurred_flags terms owner text arms) (start_under terms owner text) owner.text.start
 
   -- where the verdict names a granted term, or none
   abbrev Then : ℕ → List Verdict → Verdict → Bool → List Term → Verdict → Type 0

@@ -2,6 +2,7 @@
 use Rattle.std.proofs.Common.{◌≡◌, ℕ, ◌<◌, List, [], ◌∷◌, length, Some, refl, sym, ◌∙◌, ap, ap₂, subst, arith, inl, inr}
 use Rattle.std.specs.Prelude.{IsSomeAnd}
 use Rattle.sm_io.specs.Files.{FileMap}
+use Rattle.flow_rule.specs.Values.{blurred_flags}
 use Rattle.flow_rule.specs.Verdict.{start_under}
 use Rattle.flow_rule.specs.Arms.{flow_under}
 use Rattle.link_symbols.specs.declared.fault.LinkFault.{LinkFault}
@@ -23,7 +24,7 @@ one_told : (outcome : Outcome) (a b : Answer) → Answers outcome a → Answers 
 one_told (gives own) a b r s = sym r ∙ s
 one_told (runs value entries cycles) a b r s = sym r ∙ s
 one_told (judges terms owner text arms) a b r s =
-    r.tells ∙ ap verdict_answer (one_verdict (flow_under terms owner text arms) (start_under terms owner text) owner.text.start r.verdict s.verdict r.is s.is) ∙ sym s.tells
+    r.tells ∙ ap verdict_answer (one_verdict (flow_under blurred_flags terms owner text arms) (start_under terms owner text) owner.text.start r.verdict s.verdict r.is s.is) ∙ sym s.tells
 one_told (offers granted owner text arms) a b r s =
     let same = one_offer owner text arms granted (length granted) [] r.terms s.terms r.verdict s.verdict r.is s.is in
     r.tells ∙ ap₂ (λ (ts : List Term) (v : Verdict). offer_answer (terms_text ts) v) same.0 same.1 ∙ sym s.tells
@@ -96,7 +97,7 @@ some_answer map command (gives own) P some c p = (own, refl, p own (record { out
 some_answer map command (runs value entries cycles) P some c p =
     (trace_answer value entries cycles, refl, p (trace_answer value entries cycles) (record { outcome = runs value entries cycles; comes = c; is = refl }))
 some_answer map command (judges terms owner text arms) P some c p =
-    let v = some_verdict (flow_under terms owner text arms) (start_under terms owner text) owner.text.start in
+    let v = some_verdict (flow_under blurred_flags terms owner text arms) (start_under terms owner text) owner.text.start in
     let told : IsJudged terms owner text arms (verdict_answer v.0) = record { verdict = v.0; is = v.1; tells = refl } in
     (verdict_answer v.0, told, p (verdict_answer v.0) (record { outcome = judges terms owner text arms; comes = c; is = told }))
 some_answer map command (offers granted owner text arms) P some c p =

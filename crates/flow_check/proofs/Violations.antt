@@ -13,7 +13,7 @@ use Rattle.flow_rule.specs.declared.Reach.{Reach}
 use Rattle.flow_rule.specs.declared.Reason.TheVariants.{SecretAtExit, DataAtExit, UnknownTarget, SecretBranch}
 use Rattle.flow_rule.specs.declared.Val.TheVariants.{Secret}
 use Rattle.flow_rule.specs.Iterations.{RuleViolation, FlowStep, PointState}
-use Rattle.flow_rule.specs.Values.{is_secret, val}
+use Rattle.flow_rule.specs.Values.{is_secret, val, blurred_flags}
 use Rattle.flow_rule.specs.Does.{word_no, past_val, does_val, writes_val}
 use Rattle.flow_rule.specs.Violations.{exit_violations, word_violations, reach_violations, reach_violations_by, violation, violation_if}
 use Rattle.flow_rule.specs.Going.{goes, also, both}
@@ -76,7 +76,7 @@ both_addrs xs ys t0 t1 t2 e1 e2 =
     e2 ∙ ap (λ l. l ++ addrs_of ys) e1 ∙ append_assoc t0 (addrs_of xs) (addrs_of ys) ∙ ap (λ l. t0 ++ l) (sym (addrs_append xs ys))
 
 abbrev taken_to : Terms → Module → Insn → PointState → FlowStep
-taken_to terms m insn x = goes terms m x.point.addr x.point.call_string (does_val insn x.point.addr x.state.core []).core x.state.words
+taken_to terms m insn x = goes terms m x.point.addr x.point.call_string (does_val blurred_flags insn x.point.addr x.state.core []).core x.state.words
 
 abbrev either_way : Terms → Module → Insn → PointState → FlowStep
 either_way terms m insn x =
@@ -84,15 +84,15 @@ either_way terms m insn x =
     (both (taken_to terms m insn x) (goes terms m x.point.addr x.point.call_string (past_val insn x.point.addr x.state.core) x.state.words))
 
 pub jump_always : (terms : Terms) (m : Module) (text : List ℕ) (insn : Insn) (cn : Condition) (x : PointState) → is_always cn ≡ true →
-    step_jump terms m text insn cn x ≡ taken_to terms m insn x
+    step_jump blurred_flags terms m text insn cn x ≡ taken_to terms m insn x
 jump_always terms m text insn cn x e = ap (λ b. cond b (taken_to terms m insn x) (either_way terms m insn x)) e
 
 pub jump_other : (terms : Terms) (m : Module) (text : List ℕ) (insn : Insn) (cn : Condition) (x : PointState) → is_always cn ≡ false →
-    step_jump terms m text insn cn x ≡ either_way terms m insn x
+    step_jump blurred_flags terms m text insn cn x ≡ either_way terms m insn x
 jump_other terms m text insn cn x e = ap (λ b. cond b (taken_to terms m insn x) (either_way terms m insn x)) e
 
-pub jump_same : (terms : Terms) (m : Module) (text : List ℕ) (insn : Insn) (cn : Condition) (off : ℤ) (x : PointState) → insn ≡ Jump cn off → step_jump terms m text insn cn x ≡ step_insn terms m text (Some insn) x
-jump_same terms m text insn cn off x e = ap (λ i. step_jump terms m text i cn x) e ∙ sym (ap (λ i. step_insn terms m text (Some i) x) e)
+pub jump_same : (terms : Terms) (m : Module) (text : List ℕ) (insn : Insn) (cn : Condition) (off : ℤ) (x : PointState) → insn ≡ Jump cn off → step_jump blurred_flags terms m text insn cn x ≡ step_insn blurred_flags terms m text (Some insn) x
+jump_same terms m text insn cn off x e = ap (λ i. step_jump blurred_flags terms m text i cn x) e ∙ sym (ap (λ i. step_insn blurred_flags terms m text (Some i) x) e)
 
 -- ---- steps into the closed words of a stub
 shut_same : (m : Module) (pc : ℕ) (gs : List PointState) → shut_violations m pc gs ≡ shut_at m pc (addrs_of gs)
@@ -107,17 +107,17 @@ pub shut_after : (m : Module) (pc : ℕ) (s : FlowStep) (ts : List ℕ) (o0 o1 o
 shut_after m pc s ts o0 o1 o2 e1 et e2 =
     e2 ∙ ap (λ t. noted (shut_at m pc t) o1) et ∙ ap (λ rs. noted rs o1) (sym (shut_same m pc s.gives)) ∙ ap (noted (shut_violations m pc s.gives)) e1 ∙ sym (noted_append s.violations (shut_violations m pc s.gives) o0)
 
-pub stub_open : (terms : Terms) (m : Module) (text : List ℕ) (x : PointState) → (word_number m x.point.addr == 17) ≡ false → is_open (word_number m x.point.addr) ≡ true → step_of terms m text x ≡ step_stub terms m text x
+pub stub_open : (terms : Terms) (m : Module) (text : List ℕ) (x : PointState) → (word_number m x.point.addr == 17) ≡ false → is_open (word_number m x.point.addr) ≡ true → step_of blurred_flags terms m text x ≡ step_stub blurred_flags terms m text x
 unfolding step_stub step_of
 stub_open terms m text x e f =
-    sym (ap (λ b. cond b (step_entries m text x) (shut_if (is_open (word_number m x.point.addr)) m x.point.addr (step_of terms m text x))) e
-    ∙ ap (λ b. shut_if b m x.point.addr (step_of terms m text x)) f)
+    sym (ap (λ b. cond b (step_entries m text x) (shut_if (is_open (word_number m x.point.addr)) m x.point.addr (step_of blurred_flags terms m text x))) e
+    ∙ ap (λ b. shut_if b m x.point.addr (step_of blurred_flags terms m text x)) f)
 
-pub stub_shut : (terms : Terms) (m : Module) (text : List ℕ) (x : PointState) → (word_number m x.point.addr == 17) ≡ false → is_open (word_number m x.point.addr) ≡ false → shut_if false m x.point.addr (step_of terms m text x) ≡ step_stub terms m text x
+pub stub_shut : (terms : Terms) (m : Module) (text : List ℕ) (x : PointState) → (word_number m x.point.addr == 17) ≡ false → is_open (word_number m x.point.addr) ≡ false → shut_if false m x.point.addr (step_of blurred_flags terms m text x) ≡ step_stub blurred_flags terms m text x
 unfolding step_stub step_of
 stub_shut terms m text x e f =
-    sym (ap (λ b. cond b (step_entries m text x) (shut_if (is_open (word_number m x.point.addr)) m x.point.addr (step_of terms m text x))) e
-    ∙ ap (λ b. shut_if b m x.point.addr (step_of terms m text x)) f)
+    sym (ap (λ b. cond b (step_entries m text x) (shut_if (is_open (word_number m x.point.addr)) m x.point.addr (step_of blurred_flags terms m text x))) e
+    ∙ ap (λ b. shut_if b m x.point.addr (step_of blurred_flags terms m text x)) f)
 
 pub entries_least : (m : Module) (pc : ℕ) (push : Reach) (ts : List RuleViolation) (o0 o1 o2 : Option Violation) → noted (reach_violations m pc (push ∷ [])) o0 ≡ o1 → o2 ≡ noted ts o1 → o2 ≡ noted (reach_violations m pc (push ∷ []) ++ ts) o0
 entries_least m pc push ts o0 o1 o2 e1 e2 = e2 ∙ ap (noted ts) (sym e1) ∙ sym (noted_append (reach_violations m pc (push ∷ [])) ts o0)

@@ -16,8 +16,8 @@ use Rattle.insn_decode.specs.declared.insn.Operand.TheVariants.{Reg, Increment}
 use Rattle.insn_decode.specs.declared.insn.Condition.{Condition}
 use Rattle.insn_decode.specs.declared.insn.Insn.{Insn}
 use Rattle.insn_decode.specs.declared.insn.Insn.TheVariants.{Two, One, Jump, Reti, Unit as UnitOp}
-use Rattle.flow_rule.specs.Values.{Keeping}
-use Rattle.flow_rule.proofs.Keepings.{Keeps}
+use Rattle.flow_rule.specs.Values.{FlagDomain}
+use Rattle.flow_rule.proofs.FlagDomains.{SoundFlags}
 use Rattle.mod_layout.specs.declared.Module.{Module}
 use Rattle.mod_layout.specs.declared.Section.{Section}
 use Rattle.mod_layout.specs.Table.{holds}
@@ -29,10 +29,10 @@ use Rattle.flow_rule.specs.declared.Val.TheVariants.{Known, Away, Public, Secret
 use Rattle.flow_rule.specs.Values.{flags_in, is_secret, val}
 use Rattle.flow_rule.specs.declared.Reason.TheVariants.{SecretBranch}
 use Rattle.flow_rule.specs.Iterations.{PointState, RuleViolation, FlowStep}
-use Rattle.flow_rule.specs.Does.{does_val_as, past_val}
+use Rattle.flow_rule.specs.Does.{does_val, past_val}
 use Rattle.flow_rule.specs.Violations.{violation_if}
 use Rattle.flow_rule.specs.Going.{goes, both, also}
-use Rattle.flow_rule.specs.Steps.{turns_by, step_plain_as, step_jump_as, step_insn_as, step_of_as}
+use Rattle.flow_rule.specs.Steps.{turns_by, step_plain, step_jump, step_insn, step_of}
 use Rattle.flow_rule.proofs.Meaning.{Agrees}
 use Rattle.flow_rule.proofs.Cores.{AgreeCore, put_other_reg, mode, confined_mode, confined_kept}
 use Rattle.flow_rule.specs.Arms.{stepped_regs, written_reg, written_regs, Walk, Meets, Stops, walked, walk_on, walk}
@@ -118,7 +118,7 @@ at_each m x ca da cb db h =
       record { pc_a = h.pc_b; pc_b = h.pc_b; core = core.1; words = record { is_a = h.words.is_b; is_b = h.words.is_b; at = λ i. (each i).1 }; in_text = h.in_text },
     )
 
-module _ (terms : Terms) (key : List ℕ) (m : Module) (text : List ℕ) (caller : ℕ) (shape : Shape m) (keeping : Keeping) (proper : Keeps keeping) where
+module _ (terms : Terms) (key : List ℕ) (m : Module) (text : List ℕ) (caller : ℕ) (shape : Shape m) (domain : FlagDomain) (proper : SoundFlags domain) where
   abbrev j : Job
   j = job_of key m text caller
 
@@ -146,7 +146,7 @@ module _ (terms : Terms) (key : List ℕ) (m : Module) (text : List ℕ) (caller
   conf_long c x = length-set x 2 _
 
   -- length and mode by the agreement that the instruction leaves
-  by_parts : (insn : Insn) (x : PointState) (gives : List PointState) (c d : List ℕ) (rs ws : List ℕ) (q : Parts terms key m text caller shape keeping proper insn gives ws c d c d) → 0 < cycles_of insn →
+  by_parts : (insn : Insn) (x : PointState) (gives : List PointState) (c d : List ℕ) (rs ws : List ℕ) (q : Parts terms key m text caller shape domain proper insn gives ws c d c d) → 0 < cycles_of insn →
       length (next_core insn c q.values_a) ≡ 16 →
       ((k : ℕ) → k ≢ 0 → k ≢ 2 → NotIn k rs → reg (next_core insn c q.values_a) k ≡ reg c k) → Moved x gives c d (cycles_of insn) rs ws
   by_parts insn x gives c d rs ws q some long regs =
@@ -190,19 +190,19 @@ module _ (terms : Terms) (key : List ℕ) (m : Module) (text : List ℕ) (caller
       let insn = One op w a in
       conf_long c (does_freely insn c vs).core ∙ written_long true a _ (stepped w a (past insn c)) ∙ stepped_long w a (past insn c) ∙ length-set c 0 _ ∙ long
 
-  jump_move : (cn : Condition) (off : ℤ) (x : PointState) (c d : List ℕ) → AgreeAt m x c d c d → met m.text text x.point.addr ≡ Some (Jump cn off) → is_always cn ≡ true → (step_jump_as keeping terms m text (Jump cn off) cn x).violations ≡ [] →
-      Moved x (step_jump_as keeping terms m text (Jump cn off) cn x).gives c d (cycles_of (Jump cn off)) [] (met_words (Some (Jump cn off)) m x)
-  unfolding does_val_as cycles_of asks plan
+  jump_move : (cn : Condition) (off : ℤ) (x : PointState) (c d : List ℕ) → AgreeAt m x c d c d → met m.text text x.point.addr ≡ Some (Jump cn off) → is_always cn ≡ true → (step_jump domain terms m text (Jump cn off) cn x).violations ≡ [] →
+      Moved x (step_jump domain terms m text (Jump cn off) cn x).gives c d (cycles_of (Jump cn off)) [] (met_words (Some (Jump cn off)) m x)
+  unfolding does_val cycles_of asks plan
   jump_move cn off x c d at e always none = by (is_always cn) always none
     where
       insn : Insn
       insn = Jump cn off
 
       goes_on : FlowStep
-      goes_on = goes terms m x.point.addr x.point.call_string (way_val terms key m text caller shape keeping proper cn off x c d c d at e true) x.state.words
+      goes_on = goes terms m x.point.addr x.point.call_string (way_val terms key m text caller shape domain proper cn off x c d c d at e true) x.state.words
 
       other : FlowStep
-      other = turns_by (keeping.known (val x.state.core 2)) (is_secret (val x.state.core 2)) x.point.addr cn goes_on (goes terms m x.point.addr x.point.call_string (past_val (Jump cn off) x.point.addr x.state.core) x.state.words)
+      other = turns_by (domain.known (val x.state.core 2)) (is_secret (val x.state.core 2)) x.point.addr cn goes_on (goes terms m x.point.addr x.point.call_string (past_val (Jump cn off) x.point.addr x.state.core) x.state.words)
 
       taken : jumps cn (reg c 2) ≡ true
       taken = always_jumps cn (reg c 2) always
@@ -217,25 +217,25 @@ module _ (terms : Terms) (key : List ℕ) (m : Module) (text : List ℕ) (caller
             core = confined true c x1;
             data_left = d;
             pass = does_it j c d (confined true c x1) d (Jump cn off) 1 false
-                (fetched terms key m text caller shape keeping proper c d (Jump cn off) at.core.even_pc (ap (λ a. holds m.text a) at.pc_a ∙ at.in_text) (ap (λ a. met m.text text a) at.pc_a ∙ e) refl refl)
-                (jump_so terms key m text caller shape keeping proper cn off c d ∙ ap (λ t. after (confined true c (cond t x1 c1)) d 1 false) taken);
-            single = way_single terms key m text caller shape keeping proper cn off x c d c d at e true none;
+                (fetched terms key m text caller shape domain proper c d (Jump cn off) at.core.even_pc (ap (λ a. holds m.text a) at.pc_a ∙ at.in_text) (ap (λ a. met m.text text a) at.pc_a ∙ e) refl refl)
+                (jump_so terms key m text caller shape domain proper cn off c d ∙ ap (λ t. after (confined true c (cond t x1 c1)) d 1 false) taken);
+            single = way_single terms key m text caller shape domain proper cn off x c d c d at e true none;
             regs = λ k n0 n2 no. conf_reg c x1 k n2 ∙ put_other_reg c1 0 (add16 (reg c1 0) (distance off)) k n0 ∙ past_kept (Jump cn off) c k n0;
             words = λ i no. refl;
             sr = conf_mode c x1 len;
           }
 
   -- one instruction of an arm
-  arm_move : (x : PointState) (c d : List ℕ) (join next : ℕ) → AgreeAt m x c d c d → arm_next join x.point.addr (met m.text text x.point.addr) ≡ Some next → (step_of_as keeping terms m text x).violations ≡ [] →
-      Moved x (step_of_as keeping terms m text x).gives c d (met_cycles (met m.text text x.point.addr)) (met_regs (met m.text text x.point.addr)) (met_words (met m.text text x.point.addr) m x)
+  arm_move : (x : PointState) (c d : List ℕ) (join next : ℕ) → AgreeAt m x c d c d → arm_next join x.point.addr (met m.text text x.point.addr) ≡ Some next → (step_of domain terms m text x).violations ≡ [] →
+      Moved x (step_of domain terms m text x).gives c d (met_cycles (met m.text text x.point.addr)) (met_regs (met m.text text x.point.addr)) (met_words (met m.text text x.point.addr) m x)
   arm_move x c d join next at on none = by (met m.text text x.point.addr) refl on none
     where
-      by : (o : Option Insn) → met m.text text x.point.addr ≡ o → arm_next join x.point.addr o ≡ Some next → (step_insn_as keeping terms m text o x).violations ≡ [] → Moved x (step_insn_as keeping terms m text o x).gives c d (met_cycles o) (met_regs o) (met_words o m x)
+      by : (o : Option Insn) → met m.text text x.point.addr ≡ o → arm_next join x.point.addr o ≡ Some next → (step_insn domain terms m text o x).violations ≡ [] → Moved x (step_insn domain terms m text o x).gives c d (met_cycles o) (met_regs o) (met_words o m x)
       by None e on none = absurd cc
       by (Some (Two op w s dst)) e on none =
-          let h = two_alike terms key m text caller shape keeping proper op w s dst (met_regular m text x.point.addr (Two op w s dst) e) in
-          let q = plain_parts terms key m text caller shape keeping proper (Two op w s dst) h x c d c d at e none in
-          by_parts (Two op w s dst) x (step_plain_as keeping terms m text (Two op w s dst) x).gives c d _ _ q (two_cycles_some op w s dst) (two_long op w s dst c q.values_a at.core.long_a)
+          let h = two_alike terms key m text caller shape domain proper op w s dst (met_regular m text x.point.addr (Two op w s dst) e) in
+          let q = plain_parts terms key m text caller shape domain proper (Two op w s dst) h x c d c d at e none in
+          by_parts (Two op w s dst) x (step_plain domain terms m text (Two op w s dst) x).gives c d _ _ q (two_cycles_some op w s dst) (two_long op w s dst c q.values_a at.core.long_a)
           (λ k n0 n2 no. two_regs op w s dst c q.values_a k n0 n2 no)
       by (Some (One op w a)) e on none = one op (not_call op on) e none
         where
@@ -243,12 +243,12 @@ module _ (terms : Terms) (key : List ℕ) (m : Module) (text : List ℕ) (caller
           not_call Call on f = absurd cc
           not_call _ on f = absurd cc
 
-          one : (op : OneOp) → op ≢ Call → met m.text text x.point.addr ≡ Some (One op w a) → (step_plain_as keeping terms m text (One op w a) x).violations ≡ [] → Moved x (step_plain_as keeping terms m text (One op w a) x).gives c d (cycles_of (One op w a)) (written_regs (One op w a)) (met_words (Some (One op w a)) m x)
+          one : (op : OneOp) → op ≢ Call → met m.text text x.point.addr ≡ Some (One op w a) → (step_plain domain terms m text (One op w a) x).violations ≡ [] → Moved x (step_plain domain terms m text (One op w a) x).gives c d (cycles_of (One op w a)) (written_regs (One op w a)) (met_words (Some (One op w a)) m x)
           one op nc e none =
               let r = met_regular m text x.point.addr (One op w a) e in
-              let h = one_alike terms key m text caller shape keeping proper op w a r.0 in
-              let q = plain_parts terms key m text caller shape keeping proper (One op w a) h x c d c d at e none in
-              by_parts (One op w a) x (step_plain_as keeping terms m text (One op w a) x).gives c d _ _ q r.1 (one_long op w a c q.values_a nc at.core.long_a)
+              let h = one_alike terms key m text caller shape domain proper op w a r.0 in
+              let q = plain_parts terms key m text caller shape domain proper (One op w a) h x c d c d at e none in
+              by_parts (One op w a) x (step_plain domain terms m text (One op w a) x).gives c d _ _ q r.1 (one_long op w a c q.values_a nc at.core.long_a)
               (λ k n0 n2 no. one_regs op w a c q.values_a k n0 n2 nc no)
       by (Some (Jump cn off)) e on none = jump_move cn off x c d at e (if_always (is_always cn) _ _ _ next on) none
       by (Some Reti) e on none = absurd cc
@@ -278,7 +278,7 @@ module _ (terms : Terms) (key : List ℕ) (m : Module) (text : List ℕ) (caller
 
   -- other steps that do along an arm what the plain ones do
   abbrev pub Refines : (PointState → FlowStep) → Type 0
-  Refines S = (x : PointState) (c d : List ℕ) (join next : ℕ) → AgreeAt m x c d c d → arm_next join x.point.addr (met m.text text x.point.addr) ≡ Some next → (S x).violations ≡ [] → ((step_of_as keeping terms m text x).violations ≡ []) × ((S x).gives ≡ (step_of_as keeping terms m text x).gives)
+  Refines S = (x : PointState) (c d : List ℕ) (join next : ℕ) → AgreeAt m x c d c d → arm_next join x.point.addr (met m.text text x.point.addr) ≡ Some next → (S x).violations ≡ [] → ((step_of domain terms m text x).violations ≡ []) × ((S x).gives ≡ (step_of domain terms m text x).gives)
 
   module _ (S : PointState → FlowStep) (refine : Refines S) where
     -- what a run does along each walk to the join in so many steps

@@ -9,8 +9,8 @@ use Rattle.cpu_step.specs.Plan.{plan, past}
 use Rattle.insn_decode.specs.declared.insn.Condition.{Condition}
 use Rattle.insn_decode.specs.declared.insn.Insn.{Insn}
 use Rattle.insn_decode.specs.declared.insn.Insn.TheVariants.{Jump}
-use Rattle.flow_rule.specs.Values.{Keeping}
-use Rattle.flow_rule.proofs.Keepings.{Keeps}
+use Rattle.flow_rule.specs.Values.{FlagDomain}
+use Rattle.flow_rule.proofs.FlagDomains.{SoundFlags}
 use Rattle.mod_layout.specs.declared.Module.{Module}
 use Rattle.mod_layout.specs.declared.Section.{Section}
 use Rattle.mod_layout.specs.Table.{holds}
@@ -23,7 +23,7 @@ use Rattle.flow_rule.specs.declared.Val.TheVariants.{Known, Secret}
 use Rattle.flow_rule.specs.Values.{flags_in, over_one, is_secret, set_each, val, put_val, kept_val}
 use Rattle.flow_rule.specs.declared.Reason.TheVariants.{Arm as ArmInsn}
 use Rattle.flow_rule.specs.Iterations.{PointState, FlowStep}
-use Rattle.flow_rule.specs.Does.{does_val_as, past_val}
+use Rattle.flow_rule.specs.Does.{does_val, past_val}
 use Rattle.flow_rule.specs.Violations.{violation_if}
 use Rattle.flow_rule.proofs.Meaning.{Agrees, set_holds, agrees_as}
 use Rattle.flow_rule.proofs.Cores.{AgreeCore, put_other_reg, mode}
@@ -79,7 +79,7 @@ module _ (s : Section) where
   walk_clobbers_word (Stops addr) l n a b h = h tt
 
 -- ---- both arms
-module _ (terms : Terms) (key : List ℕ) (m : Module) (text : List ℕ) (caller : ℕ) (shape : Shape m) (keeping : Keeping) (proper : Keeps keeping) (S : PointState → FlowStep) (refine : Refines terms key m text caller shape keeping proper S) (At : Standing) (down : (x : PointState) (ca da cb db : List ℕ) → At x ca da cb db → AgreeAt m x ca da cb db)
+module _ (terms : Terms) (key : List ℕ) (m : Module) (text : List ℕ) (caller : ℕ) (shape : Shape m) (domain : FlagDomain) (proper : SoundFlags domain) (S : PointState → FlowStep) (refine : Refines terms key m text caller shape domain proper S) (At : Standing) (down : (x : PointState) (ca da cb db : List ℕ) → At x ca da cb db → AgreeAt m x ca da cb db)
     (up : (x : PointState) (ca da cb db : List ℕ) → At x ca da cb db → (cn : Condition) (off : ℤ) → met m.text text x.point.addr ≡ Some (Jump cn off) → (y : PointState) (pa qa pb qb : List ℕ) → kept 0 (add16 x.point.addr 2) ≤ y.point.addr → AgreeAt m y pa qa pb qb → At y pa qa pb qb)
     (base : (x : PointState) (ca da cb db : List ℕ) → At x ca da cb db → (S x).violations ≡ [] → Crossing terms m (job_of key m text caller) At (S x).gives (at_rest ca da) (at_rest cb db)) where
   abbrev jj : Job
@@ -106,18 +106,18 @@ module _ (terms : Terms) (key : List ℕ) (m : Module) (text : List ℕ) (caller
 
     -- one run from the branch to the join
     abbrev Crossed : Bool → List ℕ → List ℕ → Type 0
-    Crossed t c d = Joins terms key m text caller shape keeping proper (2 + arm.cycles) arm.join (walk_regs (walk_of t)) (walk_words (walk_of t)) c d
+    Crossed t c d = Joins terms key m text caller shape domain proper (2 + arm.cycles) arm.join (walk_regs (walk_of t)) (walk_words (walk_of t)) c d
 
     arm_crossed : (t : Bool) (c d : List ℕ) → AgreeAt m x c d c d → jumps cn (reg c 2) ≡ t → MeetsJoin (walk_of t) →
         time_to (walk_of t) ≡ arm.cycles → Crossed t c d
     unfolding asks plan
     arm_crossed t c d self turn meets time =
-        let ways = way_agrees terms key m text caller shape keeping proper cn off x c d c d self met_it t in
+        let ways = way_agrees terms key m text caller shape domain proper cn off x c d c d self met_it t in
         let first : Passes jj 2 (at_rest c d) (at_rest (jumped t c) d) =
         does_it jj c d (jumped t c) d (Jump cn off) 1 false
-        (fetched terms key m text caller shape keeping proper c d (Jump cn off) self.core.even_pc (ap (λ a. holds m.text a) self.pc_a ∙ self.in_text) (ap (λ a. met m.text text a) self.pc_a ∙ met_it) refl refl)
-        (jump_so terms key m text caller shape keeping proper cn off c d ∙ ap (λ t. after (jumped t c) d 1 false) turn) in
-        let w = walk_arm terms key m text caller shape keeping proper S refine arm.join (suc arm.join) (start_of_arm t) (jumped t c) d
+        (fetched terms key m text caller shape domain proper c d (Jump cn off) self.core.even_pc (ap (λ a. holds m.text a) self.pc_a ∙ self.in_text) (ap (λ a. met m.text text a) self.pc_a ∙ met_it) refl refl)
+        (jump_so terms key m text caller shape domain proper cn off c d ∙ ap (λ t. after (jumped t c) d 1 false) turn) in
+        let w = walk_arm terms key m text caller shape domain proper S refine arm.join (suc arm.join) (start_of_arm t) (jumped t c) d
         (record { pc = lands_at t c self.pc_a (even_at m x c d c d self) self.core.long_a; core = from_ways t ways; words = self.words }) meets in
         record {
           core = w.core;
@@ -131,7 +131,7 @@ module _ (terms : Terms) (key : List ℕ) (m : Module) (text : List ℕ) (caller
           sr = w.sr ∙ jump_mode t self.core.long_a;
         }
       where
-        from_ways : (t : Bool) → AgreeCore m.text (way_val terms key m text caller shape keeping proper cn off x c d c d self met_it t) (jumped t c) (jumped t c) → AgreeCore m.text (core_of t) (jumped t c) (jumped t c)
+        from_ways : (t : Bool) → AgreeCore m.text (way_val terms key m text caller shape domain proper cn off x c d c d self met_it t) (jumped t c) (jumped t c) → AgreeCore m.text (core_of t) (jumped t c) (jumped t c)
         from_ways true h = h
         from_ways false h = h
 
@@ -143,17 +143,17 @@ module _ (terms : Terms) (key : List ℕ) (m : Module) (text : List ℕ) (caller
         jump_keeps false k n0 n2 = conf_reg c (inner false) k n2 ∙ past_kept (Jump cn off) c k n0
 
         jump_mode : (t : Bool) → length c ≡ 16 → mode (reg (jumped t c) 2) ≡ mode (reg c 2)
-        jump_mode true long = conf_mode terms key m text caller shape keeping proper c (inner true) (length-set (past (Jump cn off) c) 0 _ ∙ length-set c 0 _ ∙ long)
-        jump_mode false long = conf_mode terms key m text caller shape keeping proper c (inner false) (length-set c 0 _ ∙ long)
+        jump_mode true long = conf_mode terms key m text caller shape domain proper c (inner true) (length-set (past (Jump cn off) c) 0 _ ∙ length-set c 0 _ ∙ long)
+        jump_mode false long = conf_mode terms key m text caller shape domain proper c (inner false) (length-set c 0 _ ∙ long)
 
         lands_at : (t : Bool) (c : List ℕ) → reg c 0 ≡ pc0 → pc0 % 2 ≡ 0 → length c ≡ 16 → reg (jumped t c) 0 ≡ kept 0 (cond t target (add16 pc0 2))
         lands_at true c e ev long =
             let c1 = past (Jump cn off) c in
             let len : length c1 ≡ 16 = length-set c 0 _ ∙ long in
             conf_reg c (put c1 0 (add16 (reg c1 0) (distance off))) 0 (λ e. absurd (omega arith)) ∙ get_or-set_same c1 0 (kept 0 (add16 (reg c1 0) (distance off))) 0 (subst (λ i. 0 < i) (sym len) (omega arith))
-            ∙ ap (λ i. kept 0 (add16 i (distance off))) (past_pc terms key m text caller shape keeping proper (Jump cn off) pc0 c refl e ev long)
+            ∙ ap (λ i. kept 0 (add16 i (distance off))) (past_pc terms key m text caller shape domain proper (Jump cn off) pc0 c refl e ev long)
         lands_at false c e ev long =
-            conf_reg c (past (Jump cn off) c) 0 (λ e. absurd (omega arith)) ∙ past_pc terms key m text caller shape keeping proper (Jump cn off) pc0 c refl e ev long ∙ stays
+            conf_reg c (past (Jump cn off) c) 0 (λ e. absurd (omega arith)) ∙ past_pc terms key m text caller shape domain proper (Jump cn off) pc0 c refl e ev long ∙ stays
           where
             stays : add16 pc0 2 ≡ kept 0 (add16 pc0 2)
             stays = omega arith
@@ -225,7 +225,7 @@ module _ (terms : Terms) (key : List ℕ) (m : Module) (text : List ℕ) (caller
         zeros n e = (ap (λ i. reg p.core i) e ∙ p.fine.1.zero_a, ap (λ i. reg q.core i) e ∙ q.fine.1.zero_a)
 
     arm_crossing : At x ca da cb db → (step_arm S m text (Jump cn off) target arm x).violations ≡ [] → Crossing terms m jj At (step_arm S m text (Jump cn off) target arm x).gives (at_rest ca da) (at_rest cb db)
-    unfolding does_val_as
+    unfolding does_val
     arm_crossing standing none =
         let r0 = violation_if (not (holds m.text arm.join)) pc0 ArmInsn arm.join in
         let rs0 = arm_violations pc0 arm.cycles 0 (walk_of false) in
@@ -247,7 +247,7 @@ module _ (terms : Terms) (key : List ℕ) (m : Module) (text : List ℕ) (caller
           to_b = at_rest q.core q.data_left;
           pass_a = p.pass;
           pass_b = q.pass;
-          ending = Stays joined_point (inl refl) p.core p.data_left q.core q.data_left (up x ca da cb db standing cn off met_it joined_point p.core p.data_left q.core q.data_left (walk_reach terms key m text caller shape keeping proper S refine arm.join (suc arm.join) (start_of_arm false) t0.0) (joined_at ta tb p q inn)) refl refl;
+          ending = Stays joined_point (inl refl) p.core p.data_left q.core q.data_left (up x ca da cb db standing cn off met_it joined_point p.core p.data_left q.core q.data_left (walk_reach terms key m text caller shape domain proper S refine arm.join (suc arm.join) (start_of_arm false) t0.0) (joined_at ta tb p q inn)) refl refl;
         }
 
   -- ---- every step, with certificates

@@ -15,8 +15,8 @@ use Rattle.insn_decode.specs.declared.insn.Condition.{Condition}
 use Rattle.insn_decode.specs.declared.insn.Condition.TheVariants.{NoCarry, Carry, Always}
 use Rattle.insn_decode.specs.declared.insn.Insn.{Insn}
 use Rattle.insn_decode.specs.declared.insn.Insn.TheVariants.{Two, Jump}
-use Rattle.flow_rule.specs.Values.{Keeping}
-use Rattle.flow_rule.proofs.Keepings.{Keeps}
+use Rattle.flow_rule.specs.Values.{FlagDomain}
+use Rattle.flow_rule.proofs.FlagDomains.{SoundFlags}
 use Rattle.mod_layout.specs.declared.Module.{Module}
 use Rattle.mod_layout.specs.Table.{holds}
 use Rattle.cpu_step.specs.Asked.{asks, effect}
@@ -120,7 +120,7 @@ jump_calm k off pc to six seven c false ev small e h =
     let p = past_calm (Jump k off) 1 pc six seven c refl ev small h in
     calm_of c (past (Jump k off) c) (pc + 2) six seven p.0 p.1 p.2 p.3 p.4
 
-module _ (terms : Terms) (key : List ℕ) (m : Module) (text : List ℕ) (caller : ℕ) (shape : Shape m) (keeping : Keeping) (proper : Keeps keeping) (n p : ℕ) (facts : StubFacts m text n p) (ps : List Release) (R : List ℕ → List ℕ → Type 0) (da db : List ℕ) where
+module _ (terms : Terms) (key : List ℕ) (m : Module) (text : List ℕ) (caller : ℕ) (shape : Shape m) (domain : FlagDomain) (proper : SoundFlags domain) (n p : ℕ) (facts : StubFacts m text n p) (ps : List Release) (R : List ℕ → List ℕ → Type 0) (da db : List ℕ) where
   abbrev j : Job
   j = job_of key m text caller
 
@@ -151,7 +151,7 @@ module _ (terms : Terms) (key : List ℕ) (m : Module) (text : List ℕ) (caller
 
   does_at : (insn : Insn) (k : ℕ) (c d : List ℕ) → k < 38 → reg c 0 ≡ t0 + 2 * k → met m.text text (t0 + 2 * k) ≡ Some insn → is_alone insn ≡ true → all_inside j (asks (lone_who j) insn c) ≡ true → doing j (at_rest c d) ≡ Does insn
   does_at insn k c d lt e met_it alone ins =
-      fetched terms key m text caller shape keeping proper c d insn (ap (λ a. a % 2) e ∙ even_at k) (ap (λ a. holds m.text a) e ∙ in_stub (t0 + 2 * k) (omega arith) (omega arith)) (ap (λ a. met m.text text a) e ∙ met_it) alone ins
+      fetched terms key m text caller shape domain proper c d insn (ap (λ a. a % 2) e ∙ even_at k) (ap (λ a. holds m.text a) e ∙ in_stub (t0 + 2 * k) (omega arith) (omega arith)) (ap (λ a. met m.text text a) e ∙ met_it) alone ins
 
   before_cmp : (x r k : ℕ) (c : List ℕ) → k < 38 → reg c 0 ≡ t0 + 2 * k → met m.text text (t0 + 2 * k) ≡ Some (compares x r) → Alike (next_core (compares x r) c []) → Alike c
   unfolding lone_does asks effect does plan
@@ -162,7 +162,7 @@ module _ (terms : Terms) (key : List ℕ) (m : Module) (text : List ℕ) (caller
   unfolding asks plan
   before_jump cn off k c t lt e met_it et h =
       before (Jump cn off) c (jump_core cn off t c) 1 (does_at (Jump cn off) k c da lt e met_it refl refl) (does_at (Jump cn off) k c db lt e met_it refl refl)
-      (jump_so terms key m text caller shape keeping proper cn off c da ∙ ap (λ t. after (jump_core cn off t c) da 1 false) et) (jump_so terms key m text caller shape keeping proper cn off c db ∙ ap (λ t. after (jump_core cn off t c) db 1 false) et) h
+      (jump_so terms key m text caller shape domain proper cn off c da ∙ ap (λ t. after (jump_core cn off t c) da 1 false) et) (jump_so terms key m text caller shape domain proper cn off c db ∙ ap (λ t. after (jump_core cn off t c) db 1 false) et) h
 
   -- ---- the instructions
   met_2 : met m.text text (t0 + 4) ≡ Some (Jump NoCarry (pos 4))
@@ -214,7 +214,7 @@ module _ (terms : Terms) (key : List ℕ) (m : Module) (text : List ℕ) (caller
       let c' = jump_core Always (negsuc 0) true c in
       let goes : kept 0 (add16 (t0 + 12 + 2) (distance (negsuc 0))) ≡ t0 + 12 = back in
       let h' : Calm c' (t0 + 12) six seven = jump_calm Always (negsuc 0) (t0 + 12) (t0 + 12) six seven c true (even_at 6) (omega (arith, small_at 6)) goes h in
-      let pass = does_it j c d c' d (Jump Always (negsuc 0)) 1 false (does_at (Jump Always (negsuc 0)) 6 c d (omega arith) h.here met_6 refl refl) (jump_so terms key m text caller shape keeping proper Always (negsuc 0) c d) in
+      let pass = does_it j c d c' d (Jump Always (negsuc 0)) 1 false (does_at (Jump Always (negsuc 0)) 6 c d (omega arith) h.here met_6 refl refl) (jump_so terms key m text caller shape domain proper Always (negsuc 0) c d) in
       by (cases_lt i 2) pass (λ i lt. loops_by fuel c' d six seven h' i lt)
     where
       back : kept 0 (add16 (t0 + 12 + 2) (distance (negsuc 0))) ≡ t0 + 12
@@ -255,7 +255,7 @@ module _ (terms : Terms) (key : List ℕ) (m : Module) (text : List ℕ) (caller
         let pc2 : reg d2 0 ≡ kept 0 (low Word seven) =
         conf_reg d1 y 0 (λ e. absurd (omega arith)) ∙ get_or-set_same y2 0 (kept 0 (low Word (reg y1 7))) 0 (subst (λ i. 0 < i) (sym len2) (omega arith))
         ∙ ap (λ v. kept 0 (low Word v)) (put_other_reg d1 0 (add16 (reg d1 0) (2 * length_of i2)) 7 (λ e. absurd (omega arith)) ∙ h1.seven_is) in
-        let gone : holds m.text (reg d2 0) ≡ false = ap (λ a. holds m.text a) (pc2 ∙ floor) ∙ away_even m.text (even terms key m text caller shape keeping proper) seven out in
+        let gone : holds m.text (reg d2 0) ≡ false = ap (λ a. holds m.text a) (pc2 ∙ floor) ∙ away_even m.text (even terms key m text caller shape domain proper) seven out in
         before i1 c d1 0 (does_at i1 36 c da (omega arith) h.here met_36 refl refl) (does_at i1 36 c db (omega arith) h.here met_36 refl refl) refl refl
         (before i2 d1 d2 1 (does_at i2 37 d1 da (omega arith) here1 met_37 refl refl) (does_at i2 37 d1 db (omega arith) here1 met_37 refl refl) refl refl
         (λ i. inl (left_alike terms.answers R j i d2 da d2 db refl gone gone rest)))

@@ -7,8 +7,8 @@ use Rattle.insn_decode.specs.declared.insn.Condition.{Condition}
 use Rattle.insn_decode.specs.declared.insn.Insn.{Insn}
 use Rattle.insn_decode.specs.declared.insn.Insn.TheVariants.{Jump}
 use Rattle.flow_rule.proofs.Plans.{none_left}
-use Rattle.flow_rule.specs.Values.{Keeping, forgotten, followed}
-use Rattle.flow_rule.proofs.Keepings.{Keeps, follows, forgets}
+use Rattle.flow_rule.specs.Values.{FlagDomain, blurred_flags, known_flags}
+use Rattle.flow_rule.proofs.FlagDomains.{SoundFlags, follows, forgets}
 use Rattle.mod_layout.specs.declared.Module.{Module}
 use Rattle.mod_layout.specs.Table.{holds, size_of}
 use Rattle.mod_layout.specs.Tables.{IsSection}
@@ -18,8 +18,8 @@ use Rattle.flow_rule.specs.Terms.{Terms, no_terms}
 use Rattle.flow_rule.specs.declared.Val.TheVariants.{Away}
 use Rattle.flow_rule.specs.Iterations.{PointState, IsLabelling, all_violations}
 use Rattle.flow_rule.specs.declared.Verdict.TheVariants.{Yes}
-use Rattle.flow_rule.specs.Steps.{step_of, step_of_as}
-use Rattle.flow_rule.specs.Stub.{is_open, shut_if, shut_violations, step_entries, call_entry, text_word, word_number, has_stub, step_stub, step_stub_as}
+use Rattle.flow_rule.specs.Steps.{step_of}
+use Rattle.flow_rule.specs.Stub.{is_open, shut_if, shut_violations, step_entries, call_entry, text_word, word_number, has_stub, step_stub}
 use Rattle.flow_rule.specs.Verdict.{known_words, no_secret, start_point, start_knowing, start_under}
 use Rattle.flow_laws.proofs.Words.{Shape, IsData}
 use Rattle.flow_laws.proofs.Labelling.{Among, Closed, closed}
@@ -34,7 +34,7 @@ use Rattle.flow_rule.proofs.Stub.{StubFacts, place_of_word, stub_facts}
 use Rattle.flow_laws.proofs.Open.{IsOpen, HasEntry, met_10, met_12, met_14, met_16, met_17, AtStub, weaken_stub, stub_crossing}
 use Rattle.flow_laws.proofs.Begin.{Calm, from_0}
 use Rattle.arm_balance.specs.declared.Arm.{Arm}
-use Rattle.flow_rule.specs.Arms.{step_arms, flow_under, flow_under_as, VerdictUnder, VerdictWith}
+use Rattle.flow_rule.specs.Arms.{step_arms, flow_under, VerdictUnder, VerdictWith}
 use Rattle.cpu_step.proofs.Alike.{ends_but, ends_then}
 use Rattle.flow_laws.specs.Laws.{AgreeOn}
 use Rattle.arm_balance.specs.Met.{met}
@@ -43,22 +43,22 @@ use Rattle.flow_laws.proofs.Arms.{arms_crossing}
 use Rattle.flow_laws.proofs.Starts.{stub_begins, CallsAlike, CallsOr, shape_of, start_in, begins_at}
 
 -- a closed set of states, where the start knows of so many words
-abbrev pub ClosedUnder : Keeping → List Release → ℕ → Terms → Module → List ℕ → List Arm → (PointState → Type 0) → Type 0
-ClosedUnder keeping ps known terms m text arms P = Closed (releasing ps (flow_under_as keeping terms m text arms)) (start_knowing known terms m text) P
+abbrev pub ClosedUnder : FlagDomain → List Release → ℕ → Terms → Module → List ℕ → List Arm → (PointState → Type 0) → Type 0
+ClosedUnder domain ps known terms m text arms P = Closed (releasing ps (flow_under domain terms m text arms)) (start_knowing known terms m text) P
 
-calls_with : (keeping : Keeping) (proper : Keeps keeping) (ps : List Release) (known : ℕ) (terms : Terms) (key : List ℕ) (m : Module) (text : List ℕ) (arms : List Arm) (P : PointState → Type 0) → Shape m → has_stub m text ≡ false → ClosedUnder keeping ps known terms m text arms P → CallsOr ps terms key m text
-calls_with keeping proper ps known terms key m text arms P shape free v steps R more e ok da db pa pb agree =
+calls_with : (domain : FlagDomain) (proper : SoundFlags domain) (ps : List Release) (known : ℕ) (terms : Terms) (key : List ℕ) (m : Module) (text : List ℕ) (arms : List Arm) (P : PointState → Type 0) → Shape m → has_stub m text ≡ false → ClosedUnder domain ps known terms m text arms P → CallsOr ps terms key m text
+calls_with domain proper ps known terms key m text arms P shape free v steps R more e ok da db pa pb agree =
     let j = job_of key m text e.caller in
     let t = m.text.start in
-    let step = step_arms (step_of_as keeping terms m text) arms m text in
+    let step = step_arms (step_of domain terms m text) arms m text in
     let start = start_point known terms m t (no_secret t) in
     let l : Closed (releasing ps step) start P =
-    subst (λ b. Closed (releasing ps (step_arms (cond b (step_stub_as keeping terms m text) (step_of_as keeping terms m text)) arms m text)) (cond b (start_point known terms m (t + 20) (set (no_secret (t + 20)) 7 Away)) start) P) free v in
+    subst (λ b. Closed (releasing ps (step_arms (cond b (step_stub domain terms m text) (step_of domain terms m text)) arms m text)) (cond b (start_point known terms m (t + 20) (set (no_secret (t + 20)) 7 Away)) start) P) free v in
     let sound : Sound terms m j (AgreeAt m) step =
     record {
       weaken = weaken_at m;
-      cross = λ x ca da cb db at none. arms_crossing terms key m text e.caller shape keeping proper (step_of_as keeping terms m text) (λ x c d join next at on e. (e, refl)) (AgreeAt m) (λ x ca da cb db h. h) (λ x ca da cb db h cn off e y pa qa pb qb le at. at)
-          (λ x ca da cb db h none. step_crossing terms key m text e.caller shape keeping proper (met_regular m text) x ca da cb db h none) arms x ca da cb db at none;
+      cross = λ x ca da cb db at none. arms_crossing terms key m text e.caller shape domain proper (step_of domain terms m text) (λ x c d join next at on e. (e, refl)) (AgreeAt m) (λ x ca da cb db h. h) (λ x ca da cb db h cn off e y pa qa pb qb le at. at)
+          (λ x ca da cb db h none. step_crossing terms key m text e.caller shape domain proper (met_regular m text) x ca da cb db h none) arms x ca da cb db at none;
     } in
     always_or ps terms m j refl (AgreeAt m) step sound start P l (λ x ca da cb db h. (h.pc_a, h.pc_b)) (λ x ca da cb db h. point_opens ps m x ca da cb db h) R more steps e.core da e.core db
     (begins_at known terms m e.core da db t ok.core_ok ok.at_start (start_in m shape.text_order) pa pb agree)
@@ -71,21 +71,21 @@ alike_alone : (terms : Terms) (key : List ℕ) (m : Module) (text : List ℕ) �
 alike_alone terms key m text h n R more e ok da db pa pb agree = ⊎_elim (λ k. k) (λ t. absurd t.5) (h n R more e ok da db pa pb agree)
 
 -- ---- with a stub
-module _ (terms : Terms) (key : List ℕ) (m : Module) (text : List ℕ) (caller : ℕ) (shape : Shape m) (keeping : Keeping) (proper : Keeps keeping) (n p : ℕ) (facts : StubFacts m text n p) where
+module _ (terms : Terms) (key : List ℕ) (m : Module) (text : List ℕ) (caller : ℕ) (shape : Shape m) (domain : FlagDomain) (proper : SoundFlags domain) (n p : ℕ) (facts : StubFacts m text n p) where
   call_stops : (join pc : ℕ) (o : Option Insn) (next : ℕ) → o ≡ Some (call_entry m) → arm_next join pc o ≡ Some next → ⊥
   call_stops join pc o next e on = let f : arm_next join pc (Some (call_entry m)) ≡ Some next = subst (λ o. arm_next join pc o ≡ Some next) e on in absurd cc
 
-  stub_refines : (x : PointState) (c d : List ℕ) (join next : ℕ) → AgreeAt m x c d c d → arm_next join x.point.addr (met m.text text x.point.addr) ≡ Some next → (step_stub_as keeping terms m text x).violations ≡ [] →
-      ((step_of_as keeping terms m text x).violations ≡ []) × ((step_stub_as keeping terms m text x).gives ≡ (step_of_as keeping terms m text x).gives)
+  stub_refines : (x : PointState) (c d : List ℕ) (join next : ℕ) → AgreeAt m x c d c d → arm_next join x.point.addr (met m.text text x.point.addr) ≡ Some next → (step_stub domain terms m text x).violations ≡ [] →
+      ((step_of domain terms m text x).violations ≡ []) × ((step_stub domain terms m text x).gives ≡ (step_of domain terms m text x).gives)
   stub_refines x c d join next at on e = by (word_number m x.point.addr == 17) (is_open (word_number m x.point.addr)) refl e
     where
-      by : (a b : Bool) → (word_number m x.point.addr == 17) ≡ a → (cond a (step_entries m text x) (shut_if b m x.point.addr (step_of_as keeping terms m text x))).violations ≡ [] →
-          ((step_of_as keeping terms m text x).violations ≡ []) × ((cond a (step_entries m text x) (shut_if b m x.point.addr (step_of_as keeping terms m text x))).gives ≡ (step_of_as keeping terms m text x).gives)
+      by : (a b : Bool) → (word_number m x.point.addr == 17) ≡ a → (cond a (step_entries m text x) (shut_if b m x.point.addr (step_of domain terms m text x))).violations ≡ [] →
+          ((step_of domain terms m text x).violations ≡ []) × ((cond a (step_entries m text x) (shut_if b m x.point.addr (step_of domain terms m text x))).gives ≡ (step_of domain terms m text x).gives)
       by true b f e =
           let place = place_of_word m x.point.addr 17 shape.text_start (eqb-true (word_number m x.point.addr) 17 f) (even_at m x c d c d at) at.in_text in
-          absurd (call_stops join x.point.addr (met m.text text x.point.addr) next (ap (λ a. met m.text text a) place ∙ met_17 terms key m text caller shape keeping proper n p facts) on)
+          absurd (call_stops join x.point.addr (met m.text text x.point.addr) next (ap (λ a. met m.text text a) place ∙ met_17 terms key m text caller shape domain proper n p facts) on)
       by false true f e = (e, refl)
-      by false false f e = (none_left (step_of_as keeping terms m text x).violations (shut_violations m x.point.addr (step_of_as keeping terms m text x).gives) e, refl)
+      by false false f e = (none_left (step_of domain terms m text x).violations (shut_violations m x.point.addr (step_of domain terms m text x).gives) e, refl)
 
   -- a branch stands past the stub's closed words, and so does its join
   stub_up : (x : PointState) (ca da cb db : List ℕ) → AtStub m n x ca da cb db → (cn : Condition) (off : ℤ) → met m.text text x.point.addr ≡ Some (Jump cn off) → (y : PointState) (pa qa pb qb : List ℕ) →
@@ -100,13 +100,13 @@ module _ (terms : Terms) (key : List ℕ) (m : Module) (text : List ℕ) (caller
       no_jump insn a f g = sym (ap (λ a. met m.text text a) f ∙ g) ∙ e
 
       no_open : IsOpen (word_number m x.point.addr) → ⊥
-      no_open (inl f) = let g = no_jump _ _ (place 10 f) (met_10 terms key m text caller shape keeping proper n p facts) in absurd cc
-      no_open (inr (inl f)) = let g = no_jump _ _ (place 12 f) (met_12 terms key m text caller shape keeping proper n p facts) in absurd cc
-      no_open (inr (inr (inl f))) = let g = no_jump _ _ (place 14 f) (met_14 terms key m text caller shape keeping proper n p facts) in absurd cc
-      no_open (inr (inr (inr f))) = let g = no_jump _ _ (place 16 f) (met_16 terms key m text caller shape keeping proper n p facts) in absurd cc
+      no_open (inl f) = let g = no_jump _ _ (place 10 f) (met_10 terms key m text caller shape domain proper n p facts) in absurd cc
+      no_open (inr (inl f)) = let g = no_jump _ _ (place 12 f) (met_12 terms key m text caller shape domain proper n p facts) in absurd cc
+      no_open (inr (inr (inl f))) = let g = no_jump _ _ (place 14 f) (met_14 terms key m text caller shape domain proper n p facts) in absurd cc
+      no_open (inr (inr (inr f))) = let g = no_jump _ _ (place 16 f) (met_16 terms key m text caller shape domain proper n p facts) in absurd cc
 
       never : (b : Bool) → (word_number m x.point.addr == 17) ≡ b → HasEntry n b (word_number m x.point.addr) ca cb → ⊥
-      never true f h = let g = no_jump _ _ (place 17 (eqb-true (word_number m x.point.addr) 17 f)) (met_17 terms key m text caller shape keeping proper n p facts) in absurd cc
+      never true f h = let g = no_jump _ _ (place 17 (eqb-true (word_number m x.point.addr) 17 f)) (met_17 terms key m text caller shape domain proper n p facts) in absurd cc
       never false f h = no_open h.0
 
       x_far : 18 < word_number m x.point.addr
@@ -123,27 +123,27 @@ module _ (terms : Terms) (key : List ℕ) (m : Module) (text : List ℕ) (caller
           below : (a : ℕ) → holds m.text a ≡ true → a < m.text.end
           below a h = grind (arith, nat_tests)
 
-stub_with : (keeping : Keeping) (proper : Keeps keeping) (ps : List Release) (known : ℕ) (terms : Terms) (key : List ℕ) (m : Module) (text : List ℕ) (arms : List Arm) (P : PointState → Type 0) → Shape m → has_stub m text ≡ true → ClosedUnder keeping ps known terms m text arms P → CallsOr ps terms key m text
-stub_with keeping proper ps known terms key m text arms P shape stub v steps R more e ok da db pa pb agree =
+stub_with : (domain : FlagDomain) (proper : SoundFlags domain) (ps : List Release) (known : ℕ) (terms : Terms) (key : List ℕ) (m : Module) (text : List ℕ) (arms : List Arm) (P : PointState → Type 0) → Shape m → has_stub m text ≡ true → ClosedUnder domain ps known terms m text arms P → CallsOr ps terms key m text
+stub_with domain proper ps known terms key m text arms P shape stub v steps R more e ok da db pa pb agree =
     let j = job_of key m text e.caller in
     let t = m.text.start in
     let n = text_word m text 8 in
     let p = text_word m text 15 in
     let facts = stub_facts m text stub in
-    let step = step_arms (step_stub_as keeping terms m text) arms m text in
+    let step = step_arms (step_stub domain terms m text) arms m text in
     let start = start_point known terms m (t + 20) (set (no_secret (t + 20)) 7 Away) in
-    let l : Closed (releasing ps step) start P = subst (λ b. Closed (releasing ps (step_arms (cond b (step_stub_as keeping terms m text) (step_of_as keeping terms m text)) arms m text)) (cond b start (start_point known terms m t (no_secret t))) P) stub v in
+    let l : Closed (releasing ps step) start P = subst (λ b. Closed (releasing ps (step_arms (cond b (step_stub domain terms m text) (step_of domain terms m text)) arms m text)) (cond b start (start_point known terms m t (no_secret t))) P) stub v in
     let sound : Sound terms m j (AtStub m n) step =
     record {
       weaken = weaken_stub m n;
       cross = λ x ca da cb db at none.
-          arms_crossing terms key m text e.caller shape keeping proper (step_stub_as keeping terms m text) (stub_refines terms key m text e.caller shape keeping proper n p facts) (AtStub m n) (λ x ca da cb db h. h.agree) (stub_up terms key m text e.caller shape keeping proper n p facts)
-          (λ x ca da cb db h none. stub_crossing terms key m text e.caller shape keeping proper n p facts x ca da cb db h none) arms x ca da cb db at none;
+          arms_crossing terms key m text e.caller shape domain proper (step_stub domain terms m text) (stub_refines terms key m text e.caller shape domain proper n p facts) (AtStub m n) (λ x ca da cb db h. h.agree) (stub_up terms key m text e.caller shape domain proper n p facts)
+          (λ x ca da cb db h none. stub_crossing terms key m text e.caller shape domain proper n p facts x ca da cb db h none) arms x ca da cb db at none;
     } in
     let core = ok.core_ok in
     let calm : Calm e.core (t + 0) (reg e.core 6) (reg e.core 7) =
     record { long = core.sixteen; nine = core.nine_bits; three = core.zero_three; six_is = refl; seven_is = refl; here = ok.at_start ∙ zero_more t } in
-    from_0 terms key m text e.caller shape keeping proper n p facts ps R da db (reg e.core 6) (reg e.core 7) (core.words 6) (core.words 7) (more da db pa pb agree)
+    from_0 terms key m text e.caller shape domain proper n p facts ps R da db (reg e.core 6) (reg e.core 7) (core.words 6) (core.words 7) (more da db pa pb agree)
     (λ out c h few i. always_or ps terms m j refl (AtStub m n) step sound start P l (λ x ca da cb db h. (h.agree.pc_a, h.agree.pc_b)) (λ x ca da cb db h. stub_opens ps m n x ca da cb db h) R more i c da c db
     (stub_begins known terms m text n p shape facts c da db (reg e.core 6) (reg e.core 7) (core.words 7) out h few pa pb agree))
     e.core calm steps
@@ -151,12 +151,12 @@ stub_with keeping proper ps known terms key m text arms P shape stub v steps R m
     zero_more : (x : ℕ) → x ≡ x + 0
     zero_more x = omega arith
 
-any_with : (keeping : Keeping) (proper : Keeps keeping) (ps : List Release) (known : ℕ) (terms : Terms) (key : List ℕ) (m : Module) (text : List ℕ) (arms : List Arm) (P : PointState → Type 0) → Shape m → ClosedUnder keeping ps known terms m text arms P → CallsOr ps terms key m text
-any_with keeping proper ps known terms key m text arms P shape v = by (has_stub m text) refl
+any_with : (domain : FlagDomain) (proper : SoundFlags domain) (ps : List Release) (known : ℕ) (terms : Terms) (key : List ℕ) (m : Module) (text : List ℕ) (arms : List Arm) (P : PointState → Type 0) → Shape m → ClosedUnder domain ps known terms m text arms P → CallsOr ps terms key m text
+any_with domain proper ps known terms key m text arms P shape v = by (has_stub m text) refl
   where
     by : (b : Bool) → has_stub m text ≡ b → CallsOr ps terms key m text
-    by true e = stub_with keeping proper ps known terms key m text arms P shape e v
-    by false e = calls_with keeping proper ps known terms key m text arms P shape e v
+    by true e = stub_with domain proper ps known terms key m text arms P shape e v
+    by false e = calls_with domain proper ps known terms key m text arms P shape e v
 
 -- where the data left are looked at only if the cores are equal
 weaker : (answers : List ℕ) (R : List ℕ → List ℕ → Type 0) (o p : CallEnd) → ends_but answers R o p → ends_then answers R o p
@@ -168,18 +168,18 @@ weaker answers R _ _ h = absurd h
 pub one_call : (terms : Terms) (key : List ℕ) (m : Module) (text : List ℕ) (arms : List Arm) → IsSection m.text → IsSection m.ram → VerdictUnder terms m text arms Yes → CallsAlike terms key m text
 unfolding step_stub step_of
 one_call terms key m text arms t r v =
-    alike_alone terms key m text (any_with forgotten forgets [] known_words terms key m text arms (λ z. Among z v.0) (shape_of m t r) (closed (flow_under terms m text arms) (start_under terms m text) v.0 v.1 v.3))
+    alike_alone terms key m text (any_with blurred_flags forgets [] known_words terms key m text arms (λ z. Among z v.0) (shape_of m t r) (closed (flow_under blurred_flags terms m text arms) (start_under terms m text) v.0 v.1 v.3))
 
 pub unrolled_call : (terms : Terms) (key : List ℕ) (m : Module) (text : List ℕ) (arms : List Arm) → IsSection m.text → IsSection m.ram → UnrolledUnder terms m text arms → CallsAlike terms key m text
 unrolled_call terms key m text arms t r v =
-    alike_alone terms key m text (any_with followed follows [] (size_of m.ram / 2) terms key m text arms (OnWay (flow_under_as followed terms m text arms) (start_knowing (size_of m.ram / 2) terms m text) v.0 v.1 v.2) (shape_of m t r)
-    (unrolled_closed (flow_under_as followed terms m text arms) (start_knowing (size_of m.ram / 2) terms m text) v.0 v.1 v.2))
+    alike_alone terms key m text (any_with known_flags follows [] (size_of m.ram / 2) terms key m text arms (OnWay (flow_under known_flags terms m text arms) (start_knowing (size_of m.ram / 2) terms m text) v.0 v.1 v.2) (shape_of m t r)
+    (unrolled_closed (flow_under known_flags terms m text arms) (start_knowing (size_of m.ram / 2) terms m text) v.0 v.1 v.2))
 
 pub released_call : (ps : List Release) (terms : Terms) (key : List ℕ) (m : Module) (text : List ℕ) (arms : List Arm) (kept : List PointState) (steps : ℕ) → IsSection m.text → IsSection m.ram →
-    IsUnrolled (releasing ps (flow_under_as followed terms m text arms)) (start_knowing (size_of m.ram / 2) terms m text) kept steps → CallsOr ps terms key m text
+    IsUnrolled (releasing ps (flow_under known_flags terms m text arms)) (start_knowing (size_of m.ram / 2) terms m text) kept steps → CallsOr ps terms key m text
 released_call ps terms key m text arms kept steps t r u =
-    any_with followed follows ps (size_of m.ram / 2) terms key m text arms (OnWay (releasing ps (flow_under_as followed terms m text arms)) (start_knowing (size_of m.ram / 2) terms m text) kept steps u) (shape_of m t r)
-    (unrolled_closed (releasing ps (flow_under_as followed terms m text arms)) (start_knowing (size_of m.ram / 2) terms m text) kept steps u)
+    any_with known_flags follows ps (size_of m.ram / 2) terms key m text arms (OnWay (releasing ps (flow_under known_flags terms m text arms)) (start_knowing (size_of m.ram / 2) terms m text) kept steps u) (shape_of m t r)
+    (unrolled_closed (releasing ps (flow_under known_flags terms m text arms)) (start_knowing (size_of m.ram / 2) terms m text) kept steps u)
 
 even_calls : (terms : Terms) (key : List ℕ) (m : Module) (text : List ℕ) (n : ℕ) (es : List Entrance) (da db : List ℕ) → CallsAlike terms key m text →
     IsData m da → IsData m db → AgreeOn m terms.public da db → All (IsEntry m) es → EvenBut terms.answers key m text n es da db

@@ -15,8 +15,8 @@ use Rattle.insn_decode.specs.declared.insn.Condition.TheVariants.{NotZero, Zero,
 use Rattle.insn_decode.specs.declared.insn.Insn.{Insn}
 use Rattle.insn_decode.specs.declared.insn.Insn.TheVariants.{Two, One, Jump, Reti, Unit as UnitOp}
 use Rattle.pc_access.specs.declared.Access.{Access}
-use Rattle.flow_rule.specs.Values.{Keeping}
-use Rattle.flow_rule.proofs.Keepings.{Keeps}
+use Rattle.flow_rule.specs.Values.{FlagDomain}
+use Rattle.flow_rule.proofs.FlagDomains.{SoundFlags}
 use Rattle.mod_layout.specs.declared.Module.{Module}
 use Rattle.mod_layout.specs.Table.{holds, size_of}
 use Rattle.cpu_step.specs.Fetched.{insn_at, later_word, word_in, insn_from}
@@ -30,11 +30,11 @@ use Rattle.flow_rule.specs.declared.Val.TheVariants.{Known, Away, Public, Secret
 use Rattle.flow_rule.specs.Values.{flags_in, is_secret, set_each, val, put_val}
 use Rattle.flow_rule.specs.declared.Reason.TheVariants.{SecretBranch}
 use Rattle.flow_rule.specs.Iterations.{PointState, FlowStep}
-use Rattle.flow_rule.specs.Does.{plan_val, does_val_as, past_val, read_val, writes_val, read_reaches, write_reaches}
+use Rattle.flow_rule.specs.Does.{plan_val, does_val, past_val, read_val, writes_val, read_reaches, write_reaches}
 use Rattle.flow_rule.specs.Violations.{violation_if, reach_violations, exit_violations, word_violations}
 use Rattle.flow_rule.specs.Going.{exit_step, goes_by, goes, both, also}
 use Rattle.flow_rule.specs.CallStrings.{return_turn}
-use Rattle.flow_rule.specs.Steps.{turns_by, step_plain_as, step_jump_as, step_unit_as, step_insn_as, step_of_as}
+use Rattle.flow_rule.specs.Steps.{turns_by, step_plain, step_jump, step_unit, step_insn, step_of}
 use Rattle.flow_rule.proofs.Goes.{goes_in, goes_unless}
 use Rattle.flow_laws.specs.Laws.{AgreeOn}
 use Rattle.flow_rule.proofs.Meaning.{Agrees, same}
@@ -195,7 +195,7 @@ module _ (j : Job) where
   unfolding doing
   doing_next c d insn e f = ap (λ t. doing_by 0 false t (next_insn j (at_rest c d))) e ∙ ap (doing_by 0 false true) f
 
-module _ (terms : Terms) (key : List ℕ) (m : Module) (text : List ℕ) (caller : ℕ) (shape : Shape m) (keeping : Keeping) (proper : Keeps keeping) where
+module _ (terms : Terms) (key : List ℕ) (m : Module) (text : List ℕ) (caller : ℕ) (shape : Shape m) (domain : FlagDomain) (proper : SoundFlags domain) where
   abbrev pub j : Job
   j = job_of key m text caller
 
@@ -266,7 +266,7 @@ module _ (terms : Terms) (key : List ℕ) (m : Module) (text : List ℕ) (caller
     pub effect_is : (c xs : List ℕ) → effect (lone_who j) insn c xs ≡ record { core = confined true c (does_freely insn c xs).core; stored = (does_freely insn c xs).stored; cycles = cycles_of insn; closing = false }
     pub reached : (pc : ℕ) (v : List Val) (a b : List ℕ) → reg a 0 ≡ pc → reg b 0 ≡ pc → AgreeCore m.text v a b → Reached m.text (plan_val insn pc v) (plan insn a) (plan insn b)
     pub done : (pc : ℕ) (v : List Val) (a b : List ℕ) (vs : List Val) (xs ys : List ℕ) → reg a 0 ≡ pc → reg b 0 ≡ pc → AgreeCore m.text v a b → AgreeList m.text vs xs ys →
-        DoneAgrees m.text (does_val_as keeping insn pc v vs) (reg a 2) (reg b 2) (does_freely insn a xs) (does_freely insn b ys)
+        DoneAgrees m.text (does_val domain insn pc v vs) (reg a 2) (reg b 2) (does_freely insn a xs) (does_freely insn b ys)
 
   pub does_so : (insn : Insn) (h : Does_alike insn) (c d : List ℕ) (xs : List Access) → plan insn c ≡ xs →
       lone_does j insn (at_rest c d) ≡ after (confined true c (does_freely insn c (map (lone_read j d) (reads_of xs))).core) (lone_writes m d (writes_of xs) (does_freely insn c (map (lone_read j d) (reads_of xs))).stored) (cycles_of insn - 1) false
@@ -292,14 +292,14 @@ module _ (terms : Terms) (key : List ℕ) (m : Module) (text : List ℕ) (caller
     pub kept_a : (i : ℕ) → NotIn i ws → word left_a i ≡ word da i
     pub landing : Single terms m gives (confined true ca (does_freely insn ca values_a).core) left_a (confined true cb (does_freely insn cb values_b).core) left_b
 
-  pub plain_parts : (insn : Insn) → Does_alike insn → (x : PointState) (ca da cb db : List ℕ) → AgreeAt m x ca da cb db → met m.text text x.point.addr ≡ Some insn → (step_plain_as keeping terms m text insn x).violations ≡ [] →
-      Parts insn (step_plain_as keeping terms m text insn x).gives (written_words m (write_reaches (plan_val insn x.point.addr x.state.core))) ca da cb db
+  pub plain_parts : (insn : Insn) → Does_alike insn → (x : PointState) (ca da cb db : List ℕ) → AgreeAt m x ca da cb db → met m.text text x.point.addr ≡ Some insn → (step_plain domain terms m text insn x).violations ≡ [] →
+      Parts insn (step_plain domain terms m text insn x).gives (written_words m (write_reaches (plan_val insn x.point.addr x.state.core))) ca da cb db
   plain_parts insn h x ca da cb db at e none =
       let pc = x.point.addr in
       let v = x.state.core in
       let rs = plan_val insn pc v in
       let vs = map (read_val m text x.state.words) (read_reaches rs) in
-      let dv = does_val_as keeping insn pc v vs in
+      let dv = does_val domain insn pc v vs in
       let t = return_turn insn pc x.point.call_string vs in
       let g = goes_unless terms t.stops m pc t.call_string dv.core (writes_val m x.state.words (write_reaches rs) dv.stored) in
       let n1 = none_left (reach_violations m pc rs ++ t.violations) g.violations none in
@@ -331,11 +331,11 @@ module _ (terms : Terms) (key : List ℕ) (m : Module) (text : List ℕ) (caller
         landing = lands_unless terms m t.stops pc t.call_string dv.core (writes_val m x.state.words (write_reaches rs) dv.stored) _ _ _ _ core words n2;
       }
 
-  plain_crossing : (insn : Insn) → Does_alike insn → (x : PointState) (ca da cb db : List ℕ) → AgreeAt m x ca da cb db → met m.text text x.point.addr ≡ Some insn → (step_plain_as keeping terms m text insn x).violations ≡ [] →
-      Crossing terms m j (AgreeAt m) (step_plain_as keeping terms m text insn x).gives (at_rest ca da) (at_rest cb db)
+  plain_crossing : (insn : Insn) → Does_alike insn → (x : PointState) (ca da cb db : List ℕ) → AgreeAt m x ca da cb db → met m.text text x.point.addr ≡ Some insn → (step_plain domain terms m text insn x).violations ≡ [] →
+      Crossing terms m j (AgreeAt m) (step_plain domain terms m text insn x).gives (at_rest ca da) (at_rest cb db)
   plain_crossing insn h x ca da cb db at e none =
       let p = plain_parts insn h x ca da cb db at e none in
-      crossing (step_plain_as keeping terms m text insn x).gives ca da cb db _ _ _ _ insn p.rest p.doing_a p.doing_b p.so_a p.so_b (landing_of terms m _ _ _ _ _ p.landing)
+      crossing (step_plain domain terms m text insn x).gives ca da cb db _ _ _ _ insn p.rest p.doing_a p.doing_b p.so_a p.so_b (landing_of terms m _ _ _ _ _ p.landing)
 
   pub two_alike : (op : TwoOp) (w : Width) (s d : Operand) → Regular s → Does_alike (Two op w s d)
   unfolding asks effect does
@@ -345,7 +345,7 @@ module _ (terms : Terms) (key : List ℕ) (m : Module) (text : List ℕ) (caller
         asks_is = λ c. refl;
         effect_is = λ c xs. refl;
         reached = λ pc v a b ea eb h. two_reached m.text even op w s d pc v a b ok ea eb h;
-        done = λ pc v a b vs xs ys ea eb h l. two_does m.text even keeping proper op w s d pc v a b vs xs ys ok ea eb h l;
+        done = λ pc v a b vs xs ys ea eb h l. two_does m.text even domain proper op w s d pc v a b vs xs ys ok ea eb h l;
       }
 
   pub one_alike : (op : OneOp) (w : Width) (a : Operand) → Regular a → Does_alike (One op w a)
@@ -356,7 +356,7 @@ module _ (terms : Terms) (key : List ℕ) (m : Module) (text : List ℕ) (caller
         asks_is = λ c. refl;
         effect_is = λ c xs. refl;
         reached = λ pc v a b ea eb h. one_reached m.text even op w arg pc v a b ok ea eb h;
-        done = λ pc v a b vs xs ys ea eb h l. one_does m.text even keeping proper op w arg pc v a b vs xs ys ok ea eb h l;
+        done = λ pc v a b vs xs ys ea eb h l. one_does m.text even domain proper op w arg pc v a b vs xs ys ok ea eb h l;
       }
 
   -- ---- jumps
@@ -423,8 +423,8 @@ module _ (terms : Terms) (key : List ℕ) (m : Module) (text : List ℕ) (caller
     pub way_single : (t : Bool) → (way_goes t).violations ≡ [] → Single terms m (way_goes t).gives (way t ca) da (way t cb) db
     way_single t e = lands terms m pc x.point.call_string (way_val t) x.state.words (way t ca) da (way t cb) db (way_agrees t) at.words e
 
-    jump_crossing : (step_jump_as keeping terms m text insn cn x).violations ≡ [] → Crossing terms m j (AgreeAt m) (step_jump_as keeping terms m text insn cn x).gives (at_rest ca da) (at_rest cb db)
-    unfolding does_val_as
+    jump_crossing : (step_jump domain terms m text insn cn x).violations ≡ [] → Crossing terms m j (AgreeAt m) (step_jump domain terms m text insn cn x).gives (at_rest ca da) (at_rest cb db)
+    unfolding does_val
     jump_crossing none = by (is_always cn) refl none
       where
         one_way : (t : Bool) → jumps cn (reg ca 2) ≡ t → jumps cn (reg cb 2) ≡ t → (cond t (way_goes true) (way_goes false)).violations ≡ [] →
@@ -451,16 +451,16 @@ module _ (terms : Terms) (key : List ℕ) (m : Module) (text : List ℕ) (caller
         open_turns Public h none = both_ways h none
         open_turns Secret h none = absurd cc
 
-        turns : (u : Val) (o : Option ℕ) → keeping.known u ≡ o → Agrees m.text u (flags_in (reg ca 2)) (flags_in (reg cb 2)) → (turns_by o (is_secret u) pc cn (way_goes true) (way_goes false)).violations ≡ [] →
+        turns : (u : Val) (o : Option ℕ) → domain.known u ≡ o → Agrees m.text u (flags_in (reg ca 2)) (flags_in (reg cb 2)) → (turns_by o (is_secret u) pc cn (way_goes true) (way_goes false)).violations ≡ [] →
             Crossing terms m j (AgreeAt m) (turns_by o (is_secret u) pc cn (way_goes true) (way_goes false)).gives (at_rest ca da) (at_rest cb db)
         turns u (Some f) e h none = let g = proper.known m.text u f _ _ e h in one_way (jumps cn f) (jumps_flags cn (reg ca 2) ∙ ap (jumps cn) g.0) (jumps_flags cn (reg cb 2) ∙ ap (jumps cn) g.1) none
         turns u None e h none = open_turns u h none
 
-        by : (c : Bool) → is_always cn ≡ c → (cond c (way_goes true) (turns_by (keeping.known (val x.state.core 2)) (is_secret (val x.state.core 2)) pc cn (way_goes true) (way_goes false))).violations ≡ [] →
-            Crossing terms m j (AgreeAt m) (cond c (way_goes true) (turns_by (keeping.known (val x.state.core 2)) (is_secret (val x.state.core 2)) pc cn (way_goes true) (way_goes false))).gives (at_rest ca da) (at_rest cb db)
+        by : (c : Bool) → is_always cn ≡ c → (cond c (way_goes true) (turns_by (domain.known (val x.state.core 2)) (is_secret (val x.state.core 2)) pc cn (way_goes true) (way_goes false))).violations ≡ [] →
+            Crossing terms m j (AgreeAt m) (cond c (way_goes true) (turns_by (domain.known (val x.state.core 2)) (is_secret (val x.state.core 2)) pc cn (way_goes true) (way_goes false))).gives (at_rest ca da) (at_rest cb db)
         by true e none =
             way_crossing true (way_goes true).gives (always_jumps cn (reg ca 2) e) (always_jumps cn (reg cb 2) e) (landing_of terms m _ _ _ _ _ (way_single true none))
-        by false e none = turns (val x.state.core 2) (keeping.known (val x.state.core 2)) refl at.core.flags none
+        by false e none = turns (val x.state.core 2) (domain.known (val x.state.core 2)) refl at.core.flags none
 
   -- ---- unit instructions
   unit_does : UnitName → List ℕ → List ℕ → Lone
@@ -510,8 +510,8 @@ module _ (terms : Terms) (key : List ℕ) (m : Module) (text : List ℕ) (caller
         past_same (suc k) lt off =
             put_other_reg ca 0 _ (suc k) (λ e. absurd (omega arith)) ∙ same_reg m.text terms.answers x.point.addr x.state.core ca cb at.core none (suc k) lt off ∙ sym (put_other_reg cb 0 _ (suc k) (λ e. absurd (omega arith)))
 
-  unit_crossing : (n : UnitName) (u : UnitName) → n ≡ u → (x : PointState) (ca da cb db : List ℕ) → AgreeAt m x ca da cb db → met m.text text x.point.addr ≡ Some (UnitOp n) → (step_unit_as keeping terms m (UnitOp n) u x).violations ≡ [] →
-      Crossing terms m j (AgreeAt m) (step_unit_as keeping terms m (UnitOp n) u x).gives (at_rest ca da) (at_rest cb db)
+  unit_crossing : (n : UnitName) (u : UnitName) → n ≡ u → (x : PointState) (ca da cb db : List ℕ) → AgreeAt m x ca da cb db → met m.text text x.point.addr ≡ Some (UnitOp n) → (step_unit terms m (UnitOp n) u x).violations ≡ [] →
+      Crossing terms m j (AgreeAt m) (step_unit terms m (UnitOp n) u x).gives (at_rest ca da) (at_rest cb db)
   unfolding unit_does unit_plan unit_effect
   unit_crossing n Unprotect e x ca da cb db at met_it none = shut_crossing n Unprotect e x ca da cb db at met_it (ap (λ u. is_alone (UnitOp u)) e) (6 + size_of m.ram / 2 - 1) refl refl refl refl none
   unit_crossing n OwnId e x ca da cb db at met_it none = tell_crossing n OwnId e x ca da cb db at met_it (ap (λ u. is_alone (UnitOp u)) e) m.id refl refl refl refl none
@@ -519,10 +519,10 @@ module _ (terms : Terms) (key : List ℕ) (m : Module) (text : List ℕ) (caller
   unit_crossing n _ e x ca da cb db at met_it none = absurd cc
 
   -- ---- any instruction
-  pub step_crossing : ((pc : ℕ) (insn : Insn) → met m.text text pc ≡ Some insn → RegularInsn insn) → (x : PointState) (ca da cb db : List ℕ) → AgreeAt m x ca da cb db → (step_of_as keeping terms m text x).violations ≡ [] → Crossing terms m j (AgreeAt m) (step_of_as keeping terms m text x).gives (at_rest ca da) (at_rest cb db)
+  pub step_crossing : ((pc : ℕ) (insn : Insn) → met m.text text pc ≡ Some insn → RegularInsn insn) → (x : PointState) (ca da cb db : List ℕ) → AgreeAt m x ca da cb db → (step_of domain terms m text x).violations ≡ [] → Crossing terms m j (AgreeAt m) (step_of domain terms m text x).gives (at_rest ca da) (at_rest cb db)
   step_crossing regular x ca da cb db at none = by (met m.text text x.point.addr) refl none
     where
-      by : (o : Option Insn) → met m.text text x.point.addr ≡ o → (step_insn_as keeping terms m text o x).violations ≡ [] → Crossing terms m j (AgreeAt m) (step_insn_as keeping terms m text o x).gives (at_rest ca da) (at_rest cb db)
+      by : (o : Option Insn) → met m.text text x.point.addr ≡ o → (step_insn domain terms m text o x).violations ≡ [] → Crossing terms m j (AgreeAt m) (step_insn domain terms m text o x).gives (at_rest ca da) (at_rest cb db)
       by None e none = absurd cc
       by (Some (Two op w s d)) e none = plain_crossing (Two op w s d) (two_alike op w s d (regular x.point.addr (Two op w s d) e)) x ca da cb db at e none
       by (Some (One op w a)) e none = plain_crossing (One op w a) (one_alike op w a (regular x.point.addr (One op w a) e).0) x ca da cb db at e none

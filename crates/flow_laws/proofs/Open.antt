@@ -16,8 +16,8 @@ use Rattle.insn_decode.specs.declared.insn.Insn.{Insn}
 use Rattle.insn_decode.specs.declared.insn.Insn.TheVariants.{Two, One}
 use Rattle.pc_access.specs.declared.Kind.TheVariants.{Write}
 use Rattle.pc_access.specs.declared.Access.{Access}
-use Rattle.flow_rule.specs.Values.{Keeping}
-use Rattle.flow_rule.proofs.Keepings.{Keeps}
+use Rattle.flow_rule.specs.Values.{FlagDomain}
+use Rattle.flow_rule.proofs.FlagDomains.{SoundFlags}
 use Rattle.mod_layout.specs.declared.Module.{Module}
 use Rattle.mod_layout.specs.Table.{holds}
 use Rattle.cpu_step.specs.Asked.{asks, effect}
@@ -32,8 +32,8 @@ use Rattle.flow_rule.specs.declared.Reach.{Reach}
 use Rattle.flow_rule.specs.Does.{writes_val, past_val, lowered_val}
 use Rattle.flow_rule.specs.Violations.{violation_if, reach_violations}
 use Rattle.flow_rule.specs.CallStrings.{calls, ReturnTurn}
-use Rattle.flow_rule.specs.Steps.{step_of_as, step_insn_as, step_plain_as}
-use Rattle.flow_rule.specs.Stub.{text_word, entries_of, word_number, is_shut, is_open, shut_violations, shut_if, to_entries, step_entries, step_stub_as, call_entry}
+use Rattle.flow_rule.specs.Steps.{step_of, step_insn, step_plain}
+use Rattle.flow_rule.specs.Stub.{text_word, entries_of, word_number, is_shut, is_open, shut_violations, shut_if, to_entries, step_entries, step_stub, call_entry}
 use Rattle.arm_balance.specs.Met.{text_byte, met}
 use Rattle.entry_stubs.specs.Stub.{stub_front}
 use Rattle.flow_rule.proofs.Cores.{AgreeCore, put_agrees, put_other_reg, confined_agrees, ends_so}
@@ -90,7 +90,7 @@ past_pc_of insn len pc c one e ev small long =
     even_kept : kept 0 (add16 pc (2 * len)) ≡ pc + 2 * len
     even_kept = omega arith
 
-module _ (terms : Terms) (key : List ℕ) (m : Module) (text : List ℕ) (caller : ℕ) (shape : Shape m) (keeping : Keeping) (proper : Keeps keeping) (n p : ℕ) (facts : StubFacts m text n p) where
+module _ (terms : Terms) (key : List ℕ) (m : Module) (text : List ℕ) (caller : ℕ) (shape : Shape m) (domain : FlagDomain) (proper : SoundFlags domain) (n p : ℕ) (facts : StubFacts m text n p) where
   abbrev j : Job
   j = job_of key m text caller
 
@@ -110,23 +110,23 @@ module _ (terms : Terms) (key : List ℕ) (m : Module) (text : List ℕ) (caller
   word_at_place k = omega arith
 
   -- ---- the closed words are not met from outside
-  outside_crossing : (x : PointState) (ca da cb db : List ℕ) → AtStub m n x ca da cb db → (shut_if false m x.point.addr (step_of_as keeping terms m text x)).violations ≡ [] →
-      Crossing terms m j (AtStub m n) (step_of_as keeping terms m text x).gives (at_rest ca da) (at_rest cb db)
+  outside_crossing : (x : PointState) (ca da cb db : List ℕ) → AtStub m n x ca da cb db → (shut_if false m x.point.addr (step_of domain terms m text x)).violations ≡ [] →
+      Crossing terms m j (AtStub m n) (step_of domain terms m text x).gives (at_rest ca da) (at_rest cb db)
   outside_crossing x ca da cb db at none =
-      let s = step_of_as keeping terms m text x in
+      let s = step_of domain terms m text x in
       let n1 = none_right s.violations (shut_violations m x.point.addr s.gives) none in
       let n2 = none_left s.violations (shut_violations m x.point.addr s.gives) none in
-      let k = step_crossing terms key m text caller shape keeping proper regular x ca da cb db at.agree n2 in
+      let k = step_crossing terms key m text caller shape domain proper regular x ca da cb db at.agree n2 in
       record { cycles = k.cycles; some = k.some; to_a = k.to_a; to_b = k.to_b; pass_a = k.pass_a; pass_b = k.pass_b; ending = by k.to_a k.to_b n1 k.ending }
     where
-      by : (la lb : Lone) → shut_violations m x.point.addr (step_of_as keeping terms m text x).gives ≡ [] → Ending terms m j (AgreeAt m) (step_of_as keeping terms m text x).gives la lb → Ending terms m j (AtStub m n) (step_of_as keeping terms m text x).gives la lb
+      by : (la lb : Lone) → shut_violations m x.point.addr (step_of domain terms m text x).gives ≡ [] → Ending terms m j (AgreeAt m) (step_of domain terms m text x).gives la lb → Ending terms m j (AtStub m n) (step_of domain terms m text x).gives la lb
       by la lb e (Stays y among ca da cb db at ea eb) =
-          Stays y among ca da cb db (record { agree = at; entry = λ low. absurd (shut_far (word_number m y.point.addr) (not_shut m x.point.addr (step_of_as keeping terms m text x).gives e y among) low) }) ea eb
+          Stays y among ca da cb db (record { agree = at; entry = λ low. absurd (shut_far (word_number m y.point.addr) (not_shut m x.point.addr (step_of domain terms m text x).gives e y among) low) }) ea eb
       by la lb e (Left ca da cb db same out_a out_b ok_a ok_b agree ea eb) = Left ca da cb db same out_a out_b ok_a ok_b agree ea eb
       by la lb e (Shut same ea eb) = Shut same ea eb
 
   -- ---- an instruction among the words 10 to 16, to word k
-  open_crossing : (insn : Insn) (gives : List PointState) (ws ca da cb db : List ℕ) (k : ℕ) (q : Parts terms key m text caller shape keeping proper insn gives ws ca da cb db) →
+  open_crossing : (insn : Insn) (gives : List PointState) (ws ca da cb db : List ℕ) (k : ℕ) (q : Parts terms key m text caller shape domain proper insn gives ws ca da cb db) →
       reg (confined true ca (does_freely insn ca q.values_a).core) 0 ≡ t0 + 2 * k → holds m.text (t0 + 2 * k) ≡ true →
       HasEntry n (k == 17) k (confined true ca (does_freely insn ca q.values_a).core) (confined true cb (does_freely insn cb q.values_b).core) → Crossing terms m j (AtStub m n) gives (at_rest ca da) (at_rest cb db)
   open_crossing insn gives ws ca da cb db k q pc inn next =
@@ -147,8 +147,8 @@ module _ (terms : Terms) (key : List ℕ) (m : Module) (text : List ℕ) (caller
           (record { agree = at; entry = λ low. subst (λ k. HasEntry n (k == 17) k ca' cb') (sym e) next }) refl refl
       by ca' cb' pc next (Out same o out_b p q agree) = absurd (both_ways (holds m.text (reg ca' 0)) o (ap (λ a. holds m.text a) pc ∙ inn))
 
-  step_is : (x : PointState) (insn : Insn) → met m.text text x.point.addr ≡ Some insn → step_of_as keeping terms m text x ≡ step_insn_as keeping terms m text (Some insn) x
-  step_is x insn e = ap (λ o. step_insn_as keeping terms m text o x) e
+  step_is : (x : PointState) (insn : Insn) → met m.text text x.point.addr ≡ Some insn → step_of domain terms m text x ≡ step_insn domain terms m text (Some insn) x
+  step_is x insn e = ap (λ o. step_insn domain terms m text o x) e
 
   -- what the four instructions do to PC and R6
   moved_out : (r a pc : ℕ) (c vs : List ℕ) → reg c 0 ≡ pc → pc % 2 ≡ 0 → pc + 4 < 65536 → length c ≡ 16 →
@@ -233,45 +233,45 @@ module _ (terms : Terms) (key : List ℕ) (m : Module) (text : List ℕ) (caller
       next_word = ap (λ i. word_at (text_byte m.text text) i) (let e : t0 + 34 + 2 ≡ t0 + 36 = omega arith in e) ∙ stub_word 18 (t0 + 76) (omega arith) refl
 
   -- each of the four
-  module _ (x : PointState) (ca da cb db : List ℕ) (at : AgreeAt m x ca da cb db) (few : reg ca 6 < n) (equal : reg ca 6 ≡ reg cb 6) (none : (step_of_as keeping terms m text x).violations ≡ []) where
+  module _ (x : PointState) (ca da cb db : List ℕ) (at : AgreeAt m x ca da cb db) (few : reg ca 6 < n) (equal : reg ca 6 ≡ reg cb 6) (none : (step_of domain terms m text x).violations ≡ []) where
     abbrev Crosses : Type 0
-    Crosses = Crossing terms m j (AtStub m n) (step_of_as keeping terms m text x).gives (at_rest ca da) (at_rest cb db)
+    Crosses = Crossing terms m j (AtStub m n) (step_of domain terms m text x).gives (at_rest ca da) (at_rest cb db)
 
-    by_parts : (insn : Insn) (k k' : ℕ) → x.point.addr ≡ t0 + 2 * k → k < 38 → k' < 38 → met m.text text (t0 + 2 * k) ≡ Some insn → step_insn_as keeping terms m text (Some insn) x ≡ step_plain_as keeping terms m text insn x → Does_alike terms key m text caller shape keeping proper insn →
+    by_parts : (insn : Insn) (k k' : ℕ) → x.point.addr ≡ t0 + 2 * k → k < 38 → k' < 38 → met m.text text (t0 + 2 * k) ≡ Some insn → step_insn domain terms m text (Some insn) x ≡ step_plain domain terms m text insn x → Does_alike terms key m text caller shape domain proper insn →
         ((c vs : List ℕ) → reg c 0 ≡ t0 + 2 * k → length c ≡ 16 → reg c 6 < n → reg (confined true c (does_freely insn c vs).core) 0 ≡ t0 + 2 * k') →
         ((vs ws : List ℕ) → HasEntry n (k' == 17) k' (confined true ca (does_freely insn ca vs).core) (confined true cb (does_freely insn cb ws).core)) → Crosses
     by_parts insn k k' here lt lt' met_it plain alike pc next =
         let met_x : met m.text text x.point.addr ≡ Some insn = ap (λ a. met m.text text a) here ∙ met_it in
-        let e : step_of_as keeping terms m text x ≡ step_plain_as keeping terms m text insn x = step_is x insn met_x ∙ plain in
-        let q = plain_parts terms key m text caller shape keeping proper insn alike x ca da cb db at met_x (ap (λ s. s.violations) (sym e) ∙ none) in
+        let e : step_of domain terms m text x ≡ step_plain domain terms m text insn x = step_is x insn met_x ∙ plain in
+        let q = plain_parts terms key m text caller shape domain proper insn alike x ca da cb db at met_x (ap (λ s. s.violations) (sym e) ∙ none) in
         subst (λ s. Crossing terms m j (AtStub m n) s.gives (at_rest ca da) (at_rest cb db)) (sym e)
-        (open_crossing insn (step_plain_as keeping terms m text insn x).gives _ ca da cb db k' q (pc ca q.values_a (at.pc_a ∙ here) at.core.long_a few) (in_place k' lt') (next q.values_a q.values_b))
+        (open_crossing insn (step_plain domain terms m text insn x).gives _ ca da cb db k' q (pc ca q.values_a (at.pc_a ∙ here) at.core.long_a few) (in_place k' lt') (next q.values_a q.values_b))
 
     sixes : (k' : ℕ) (ca' cb' : List ℕ) → IsOpen k' → reg ca' 6 ≡ reg ca 6 → reg cb' 6 ≡ reg cb 6 → HasEntry n false k' ca' cb'
     sixes k' ca' cb' is ea eb = (is, subst (λ i. i < n) (sym ea) few, ea ∙ equal ∙ sym eb)
 
     at_10 : x.point.addr ≡ t0 + 2 * 10 → Crosses
     at_10 here =
-        by_parts (Two Mov Word (Reg 1) (Absolute m.ram.start)) 10 12 here (omega arith) (omega arith) met_10 refl (two_alike terms key m text caller shape keeping proper Mov Word (Reg 1) (Absolute m.ram.start) tt)
+        by_parts (Two Mov Word (Reg 1) (Absolute m.ram.start)) 10 12 here (omega arith) (omega arith) met_10 refl (two_alike terms key m text caller shape domain proper Mov Word (Reg 1) (Absolute m.ram.start) tt)
         (λ c vs e long few. (moved_out 1 m.ram.start (t0 + 20) c vs e (even_place 10) (omega (arith, high_bits 12)) long).0 ∙ (let e : t0 + 20 + 4 ≡ t0 + 24 = omega arith in e))
         (λ vs ws. sixes 12 (next_core (Two Mov Word (Reg 1) (Absolute m.ram.start)) ca vs) (next_core (Two Mov Word (Reg 1) (Absolute m.ram.start)) cb ws) (inr (inl refl)) (moved_out 1 m.ram.start (t0 + 20) ca vs (at.pc_a ∙ here) (even_place 10) (omega (arith, high_bits 12)) at.core.long_a).1 (moved_out 1 m.ram.start (t0 + 20) cb ws (at.pc_b ∙ here) (even_place 10) (omega (arith, high_bits 12)) at.core.long_b).1)
 
     at_12 : x.point.addr ≡ t0 + 2 * 12 → Crosses
     at_12 here =
-        by_parts (Two Mov Word (Reg 7) (Absolute (m.ram.start + 2))) 12 14 here (omega arith) (omega arith) met_12 refl (two_alike terms key m text caller shape keeping proper Mov Word (Reg 7) (Absolute (m.ram.start + 2)) tt)
+        by_parts (Two Mov Word (Reg 7) (Absolute (m.ram.start + 2))) 12 14 here (omega arith) (omega arith) met_12 refl (two_alike terms key m text caller shape domain proper Mov Word (Reg 7) (Absolute (m.ram.start + 2)) tt)
         (λ c vs e long few. (moved_out 7 (m.ram.start + 2) (t0 + 24) c vs e (even_place 12) (omega (arith, high_bits 14)) long).0 ∙ (let e : t0 + 24 + 4 ≡ t0 + 28 = omega arith in e))
         (λ vs ws. sixes 14 (next_core (Two Mov Word (Reg 7) (Absolute (m.ram.start + 2))) ca vs) (next_core (Two Mov Word (Reg 7) (Absolute (m.ram.start + 2))) cb ws) (inr (inr (inl refl))) (moved_out 7 (m.ram.start + 2) (t0 + 24) ca vs (at.pc_a ∙ here) (even_place 12) (omega (arith, high_bits 14)) at.core.long_a).1 (moved_out 7 (m.ram.start + 2) (t0 + 24) cb ws (at.pc_b ∙ here) (even_place 12) (omega (arith, high_bits 14)) at.core.long_b).1)
 
     at_14 : x.point.addr ≡ t0 + 2 * 14 → Crosses
     at_14 here =
-        by_parts (Two Mov Word (Imm p) (Reg 1)) 14 16 here (omega arith) (omega arith) met_14 refl (two_alike terms key m text caller shape keeping proper Mov Word (Imm p) (Reg 1) tt)
+        by_parts (Two Mov Word (Imm p) (Reg 1)) 14 16 here (omega arith) (omega arith) met_14 refl (two_alike terms key m text caller shape domain proper Mov Word (Imm p) (Reg 1) tt)
         (λ c vs e long few. (moved_in p (t0 + 28) c vs e (even_place 14) (omega (arith, high_bits 16)) long).0 ∙ (let e : t0 + 28 + 4 ≡ t0 + 32 = omega arith in e))
         (λ vs ws. sixes 16 (next_core (Two Mov Word (Imm p) (Reg 1)) ca vs) (next_core (Two Mov Word (Imm p) (Reg 1)) cb ws) (inr (inr (inr refl))) (moved_in p (t0 + 28) ca vs (at.pc_a ∙ here) (even_place 14) (omega (arith, high_bits 16)) at.core.long_a).1 (moved_in p (t0 + 28) cb ws (at.pc_b ∙ here) (even_place 14) (omega (arith, high_bits 16)) at.core.long_b).1)
 
     at_16 : x.point.addr ≡ t0 + 2 * 16 → Crosses
     at_16 here =
         let f = facts.few in
-        by_parts (Two Add Word (Reg 6) (Reg 6)) 16 17 here (omega arith) (omega arith) met_16 refl (two_alike terms key m text caller shape keeping proper Add Word (Reg 6) (Reg 6) tt)
+        by_parts (Two Add Word (Reg 6) (Reg 6)) 16 17 here (omega arith) (omega arith) met_16 refl (two_alike terms key m text caller shape domain proper Add Word (Reg 6) (Reg 6) tt)
         (λ c vs e long few. (doubled (t0 + 32) c vs e (even_place 16) (omega (arith, high_bits 17)) long (omega arith)).0 ∙ (let e : t0 + 32 + 2 ≡ t0 + 34 = omega arith in e))
         (λ vs ws. (
           reg ca 6,
@@ -345,8 +345,8 @@ module _ (terms : Terms) (key : List ℕ) (m : Module) (text : List ℕ) (caller
 
     lowered_both : AgreeCore m.text core_val (lowered (past (call_entry m) ca)) (lowered (past (call_entry m) cb))
     lowered_both =
-        lowered_agrees m.text (even terms key m text caller shape keeping proper) (past_val (call_entry m) x.point.addr x.state.core) (past (call_entry m) ca) (past (call_entry m) cb)
-        (past_agrees m.text (even terms key m text caller shape keeping proper) (call_entry m) x.point.addr x.state.core ca cb at.pc_a at.pc_b at.core)
+        lowered_agrees m.text (even terms key m text caller shape domain proper) (past_val (call_entry m) x.point.addr x.state.core) (past (call_entry m) ca) (past (call_entry m) cb)
+        (past_agrees m.text (even terms key m text caller shape domain proper) (call_entry m) x.point.addr x.state.core ca cb at.pc_a at.pc_b at.core)
 
     pushed : Fixed m (push ∷ []) (push_access (pushes_at ca) ∷ []) × ((push_access (pushes_at cb) ∷ []) ≡ (push_access (pushes_at ca) ∷ []))
     pushed =
@@ -384,10 +384,10 @@ module _ (terms : Terms) (key : List ℕ) (m : Module) (text : List ℕ) (caller
 
     core_both : AgreeCore m.text (put_val core_val 0 (Known goal_of)) (entered ca (entry_word ca da)) (entered cb (entry_word cb db))
     core_both =
-        let h3 = put_agrees m.text (even terms key m text caller shape keeping proper) core_val (lowered (past (call_entry m) ca)) (lowered (past (call_entry m) cb)) 0 (Known goal_of) (entry_word ca da) (entry_word cb db)
+        let h3 = put_agrees m.text (even terms key m text caller shape domain proper) core_val (lowered (past (call_entry m) ca)) (lowered (past (call_entry m) cb)) 0 (Known goal_of) (entry_word ca da) (entry_word cb db)
         (λ e. absurd (omega arith)) lowered_both (value_is ca da six_a, value_is cb db six_b) in
-        confined_agrees m.text (even terms key m text caller shape keeping proper) (put_val core_val 0 (Known goal_of)) ca cb _ _ at.core.mode_same
-        (ends_so m.text (even terms key m text caller shape keeping proper) _ _ _ _ _ h3 (sr_kept ca (entry_word ca da)) (sr_kept cb (entry_word cb db)))
+        confined_agrees m.text (even terms key m text caller shape domain proper) (put_val core_val 0 (Known goal_of)) ca cb _ _ at.core.mode_same
+        (ends_so m.text (even terms key m text caller shape domain proper) _ _ _ _ _ h3 (sr_kept ca (entry_word ca da)) (sr_kept cb (entry_word cb db)))
       where
         sr_kept : (c : List ℕ) (v : ℕ) → reg (put (lowered (past (call_entry m) c)) 0 v) 2 ≡ reg c 2
         sr_kept c v =
@@ -416,7 +416,7 @@ module _ (terms : Terms) (key : List ℕ) (m : Module) (text : List ℕ) (caller
 
     calls_entry : (c d : List ℕ) → reg c 0 ≡ x.point.addr → reg c 6 ≡ 2 * i → pushes_at c ≡ pushes_at ca → doing j (at_rest c d) ≡ Does (call_entry m)
     calls_entry c d e six same =
-        fetched terms key m text caller shape keeping proper c d (call_entry m) (ap (λ a. a % 2) (e ∙ here) ∙ even_place 17) (ap (λ a. holds m.text a) (e ∙ here) ∙ in_place 17 (omega arith)) (ap (λ a. met m.text text a) (e ∙ here) ∙ met_17) refl
+        fetched terms key m text caller shape domain proper c d (call_entry m) (ap (λ a. a % 2) (e ∙ here) ∙ even_place 17) (ap (λ a. holds m.text a) (e ∙ here) ∙ in_place 17 (omega arith)) (ap (λ a. met m.text text a) (e ∙ here) ∙ met_17) refl
         (call_inside c (ap (λ a. holds m.text a) (place_is c six) ∙ in_table) (ap (λ a. a % 2) (place_is c six) ∙ even_place (38 + i)) (ap (λ a. holds m.ram a) same ∙ push_fine.0) (ap (λ a. a % 2) same ∙ push_fine.1))
 
     entry_crossing : Crossing terms m j (AtStub m n) (step_entries m text x).gives (at_rest ca da) (at_rest cb db)
@@ -455,20 +455,20 @@ module _ (terms : Terms) (key : List ℕ) (m : Module) (text : List ℕ) (caller
             small l = let h = shape.text_high in omega arith
 
   -- ---- every step
-  pub stub_crossing : (x : PointState) (ca da cb db : List ℕ) → AtStub m n x ca da cb db → (step_stub_as keeping terms m text x).violations ≡ [] → Crossing terms m j (AtStub m n) (step_stub_as keeping terms m text x).gives (at_rest ca da) (at_rest cb db)
+  pub stub_crossing : (x : PointState) (ca da cb db : List ℕ) → AtStub m n x ca da cb db → (step_stub domain terms m text x).violations ≡ [] → Crossing terms m j (AtStub m n) (step_stub domain terms m text x).gives (at_rest ca da) (at_rest cb db)
   stub_crossing x ca da cb db at none = by (word_number m x.point.addr == 17) (is_open (word_number m x.point.addr)) refl refl at.entry none
     where
       place : (k : ℕ) → word_number m x.point.addr ≡ k → x.point.addr ≡ t0 + 2 * k
       place k e = place_of_word m x.point.addr k shape.text_start e (even_at m x ca da cb db at.agree) at.agree.in_text
 
-      opened : IsOpen (word_number m x.point.addr) → reg ca 6 < n → reg ca 6 ≡ reg cb 6 → (step_of_as keeping terms m text x).violations ≡ [] → Crossing terms m j (AtStub m n) (step_of_as keeping terms m text x).gives (at_rest ca da) (at_rest cb db)
+      opened : IsOpen (word_number m x.point.addr) → reg ca 6 < n → reg ca 6 ≡ reg cb 6 → (step_of domain terms m text x).violations ≡ [] → Crossing terms m j (AtStub m n) (step_of domain terms m text x).gives (at_rest ca da) (at_rest cb db)
       opened (inl e) few equal none = at_10 x ca da cb db at.agree few equal none (place 10 e)
       opened (inr (inl e)) few equal none = at_12 x ca da cb db at.agree few equal none (place 12 e)
       opened (inr (inr (inl e))) few equal none = at_14 x ca da cb db at.agree few equal none (place 14 e)
       opened (inr (inr (inr e))) few equal none = at_16 x ca da cb db at.agree few equal none (place 16 e)
 
       by : (a b : Bool) → (word_number m x.point.addr == 17) ≡ a → is_open (word_number m x.point.addr) ≡ b → (word_number m x.point.addr ≤ 18 → HasEntry n a (word_number m x.point.addr) ca cb) →
-          (cond a (step_entries m text x) (shut_if b m x.point.addr (step_of_as keeping terms m text x))).violations ≡ [] → Crossing terms m j (AtStub m n) (cond a (step_entries m text x) (shut_if b m x.point.addr (step_of_as keeping terms m text x))).gives (at_rest ca da) (at_rest cb db)
+          (cond a (step_entries m text x) (shut_if b m x.point.addr (step_of domain terms m text x))).violations ≡ [] → Crossing terms m j (AtStub m n) (cond a (step_entries m text x) (shut_if b m x.point.addr (step_of domain terms m text x))).gives (at_rest ca da) (at_rest cb db)
       by true b e f entry none =
           let k : word_number m x.point.addr ≡ 17 = eqb-true (word_number m x.point.addr) 17 e in
           let h = entry (omega (arith, k)) in

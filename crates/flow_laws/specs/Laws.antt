@@ -13,8 +13,8 @@ use Rattle.flow_rule.specs.Arms.{VerdictWith, VerdictUnder}
 use Rattle.flow_rule.specs.Iterations.{PointState}
 use Rattle.flow_rule.specs.Exploring.{Complete, explore, explored}
 use Rattle.flow_rule.specs.Verdict.{start_knowing}
-use Rattle.flow_rule.specs.Arms.{flow_under_as}
-use Rattle.flow_rule.specs.Values.{followed}
+use Rattle.flow_rule.specs.Arms.{flow_under}
+use Rattle.flow_rule.specs.Values.{known_flags}
 use Rattle.flow_laws.specs.Releases.{Release, releasing, ToldApart}
 
 -- a section's bytes
@@ -70,7 +70,7 @@ UnrolledKept = (terms : Terms) (m : Module) (text : List ℕ) (arms : List Arm) 
 -- or a release tells the two apart
 abbrev pub Delimited : Type 0
 Delimited = (ps : List Release) (terms : Terms) (m : Module) (text : List ℕ) (arms : List Arm) (keeps : PointState → Bool) (steps : ℕ) (kept : List PointState) → IsSection m.text → IsSection m.ram →
-    explore (releasing ps (flow_under_as followed terms m text arms)) keeps steps (start_knowing (size_of m.ram / 2) terms m text ∷ []) [] ≡ Complete kept →
+    explore (releasing ps (flow_under known_flags terms m text arms)) keeps steps (start_knowing (size_of m.ram / 2) terms m text ∷ []) [] ≡ Complete kept →
     (key d1 d2 : List ℕ) → IsData m d1 → IsData m d2 → AgreeOn m terms.public d1 d2 → (e : Entrance) → IsEntry m e → (n : ℕ) →
     let j = job_of key m text e.caller in
     alike_but terms.answers (λ c c' x y. IsData m x × IsData m y × AgreeOn m terms.public x y) (outcome j n (starts e d1)) (outcome j n (starts e d2)) ⊎ ToldApart ps j (starts e d1) (starts e d2) n

@@ -25,8 +25,8 @@ use Rattle.flow_rule.specs.declared.Val.{Val}
 use Rattle.flow_rule.specs.declared.Val.TheVariants.{Known, Away, Public, Secret}
 use Rattle.flow_rule.specs.declared.Reach.{Reach}
 use Rattle.flow_rule.specs.declared.Told.{Told}
-use Rattle.flow_rule.specs.Values.{over_one, blurred, val, seen, put_val}
-use Rattle.flow_rule.specs.Does.{place_val, stepped_val, lowered_val, reach_if, one_reach, plan_val, word_no, half, read_at, read_val, write_at, writes_val, Done_val, reads_carry, sets_flags, one_reads_carry, one_sets_flags, read_if, told_of, two_val, one_val, set_flags_by, given_val, after_val, into_register_val, written_val, clears, clears_flags, cleared_if, carry_val, one_done_val, does_val, does_val_as}
+use Rattle.flow_rule.specs.Values.{over_one, blurred, val, seen, put_val, blurred_flags}
+use Rattle.flow_rule.specs.Does.{place_val, stepped_val, lowered_val, reach_if, one_reach, plan_val, word_no, half, read_at, read_val, write_at, writes_val, Done_val, reads_carry, sets_flags, one_reads_carry, one_sets_flags, read_if, told_of, two_val, one_val, set_flags_by, given_val, after_val, into_register_val, written_val, clears, clears_flags, cleared_if, carry_val, one_done_val, does_val}
 use Rattle.flow_rule.specs.Violations.{reach_violations, reach_violations_by}
 use Rattle.flow_rule.proofs.Plans.{none_left, none_right}
 use Rattle.flow_rule.proofs.Absorbing.{AbsorbsVal, AbsorbsEach, AbsorbsOption, over_keeps, over_one_keeps, blurred_keeps, blurred_all_keeps, narrow_keeps, nth_keeps, set_keeps, drop_keeps, put_keeps, past_keeps, EvenPc, put_even, past_even}
@@ -186,7 +186,7 @@ flags_keep true t v p = p
 flags_keep false t v p = tt
 
 told_keeps : (b : Bool) (f : ℕ → ℕ → ℕ → Computed) (s d c s' d' c' : Val) → AbsorbsVal s s' → AbsorbsVal d d' → AbsorbsVal c c' →
-    Tells (told_of b f s d c) (told_of b f s' d' c')
+    Tells (told_of blurred_flags b f s d c) (told_of blurred_flags b f s' d' c')
 told_keeps b f s d c s' d' c' p q r =
     record {
       value = over_keeps (λ x y z. value_of (f x y z)) s d c s' d' c' p q r;
@@ -194,26 +194,26 @@ told_keeps b f s d c s' d' c' p q r =
     }
 
 two_keeps : (op : TwoOp) (w : Width) (s d c s' d' c' : Val) → AbsorbsVal s s' → AbsorbsVal d d' → AbsorbsVal c c' →
-    Tells (two_val op w s d c) (two_val op w s' d' c')
+    Tells (two_val blurred_flags op w s d c) (two_val blurred_flags op w s' d' c')
 two_keeps Mov Word s d c s' d' c' p q r = record { value = p; flags = tt }
 two_keeps op w s d c s' d' c' p q r =
     told_keeps (sets_flags op) (two_result op w) s (read_if (reads_dst op) d) (read_if (reads_carry op) c) s' (read_if (reads_dst op) d') (read_if (reads_carry op) c')
     p (if_keeps (reads_dst op) d d' q) (if_keeps (reads_carry op) c c' r)
 
 one_keeps : (op : OneOp) (w : Width) (a c a' c' : Val) → AbsorbsVal a a' → AbsorbsVal c c' →
-    Tells (one_val op w a c) (one_val op w a' c')
+    Tells (one_val blurred_flags op w a c) (one_val blurred_flags op w a' c')
 one_keeps op w a c a' c' p q =
     told_keeps (one_sets_flags op) (λ x y z. one_result op w x y) a (read_if (one_reads_carry op) c) (Known 0) a' (read_if (one_reads_carry op) c') (Known 0)
     p (if_keeps (one_reads_carry op) c c' q) refl
 
 set_flags_keep : (f g : Option Val) (ts vs : List Val) → AbsorbsOption f g → AbsorbsEach ts vs →
-    AbsorbsEach (set_flags_by f ts) (set_flags_by g vs)
+    AbsorbsEach (set_flags_by blurred_flags f ts) (set_flags_by blurred_flags g vs)
 set_flags_keep None None ts vs q p = p
 set_flags_keep (Some f) (Some g) ts vs q p = put_keeps ts vs 2 f g p q
 set_flags_keep None (Some g) ts vs q p = absurd q
 set_flags_keep (Some f) None ts vs q p = absurd q
 
-flags_even : (f : Option Val) (ts : List Val) → EvenPc ts → EvenPc (set_flags_by f ts)
+flags_even : (f : Option Val) (ts : List Val) → EvenPc ts → EvenPc (set_flags_by blurred_flags f ts)
 flags_even None ts h = h
 flags_even (Some f) ts h = put_even ts 2 f h
 
@@ -232,15 +232,15 @@ after_keeps o xs ys q = by (in_memory o)
     by false = q
 
 written_keeps : (b : Bool) (d : Operand) (x y : Told) (ts vs : List Val) → Tells x y → AbsorbsEach ts vs → EvenPc ts →
-    Kept (written_val b d x ts) (written_val b d y vs)
+    Kept (written_val blurred_flags b d x ts) (written_val blurred_flags b d y vs)
 written_keeps true (Reg r) x y ts vs t p h =
     record { core_kept = by (r == 2); stored_kept = tt; even_pc = even (r == 2) }
   where
-    by : (c : Bool) → AbsorbsEach (into_register_val c r x ts) (into_register_val c r y vs)
+    by : (c : Bool) → AbsorbsEach (into_register_val blurred_flags c r x ts) (into_register_val blurred_flags c r y vs)
     by true = put_keeps ts vs 2 x.value y.value p t.value
     by false = put_keeps _ _ r x.value y.value (set_flags_keep x.flags y.flags ts vs t.flags p) t.value
 
-    even : (c : Bool) → EvenPc (into_register_val c r x ts)
+    even : (c : Bool) → EvenPc (into_register_val blurred_flags c r x ts)
     even true = put_even ts 2 x.value h
     even false = put_even _ r x.value (flags_even x.flags ts h)
 written_keeps true d x y ts vs t p h =
@@ -275,20 +275,20 @@ cleared_even false ts h = h
 
 cleared_keeps : (op : TwoOp) (w : Width) (d : Operand) (a b : Val) (x y : Told) (ts vs : List Val) → AbsorbsVal a b →
     Tells x y → AbsorbsEach ts vs → EvenPc ts →
-    Kept (cleared_if (clears_flags op w d a) (written_val (writes_dst op) d x ts))
-    (cleared_if (clears_flags op w d b) (written_val (writes_dst op) d y vs))
+    Kept (cleared_if blurred_flags (clears_flags op w d a) (written_val blurred_flags (writes_dst op) d x ts))
+    (cleared_if blurred_flags (clears_flags op w d b) (written_val blurred_flags (writes_dst op) d y vs))
 cleared_keeps Bic Word (Reg r) a b x y ts vs q t p h =
     let k = written_keeps true (Reg r) x y ts vs t p h in
     record {
       core_kept = by (r == 2) (clears a) (clears b) (clears_too a b q) k.core_kept;
       stored_kept = tt;
-      even_pc = cleared_even ((r == 2) && clears a) (written_val true (Reg r) x ts).core k.even_pc;
+      even_pc = cleared_even ((r == 2) && clears a) (written_val blurred_flags true (Reg r) x ts).core k.even_pc;
     }
   where
     by : (two c e : Bool) → (c ≡ true → e ≡ true) →
-        AbsorbsEach (into_register_val two r x ts) (into_register_val two r y vs) →
-        AbsorbsEach (cleared_core (two && c) (into_register_val two r x ts))
-        (cleared_core (two && e) (into_register_val two r y vs))
+        AbsorbsEach (into_register_val blurred_flags two r x ts) (into_register_val blurred_flags two r y vs) →
+        AbsorbsEach (cleared_core (two && c) (into_register_val blurred_flags two r x ts))
+        (cleared_core (two && e) (into_register_val blurred_flags two r y vs))
     by true true true f k = put_keeps _ _ 2 Public Public k tt
     by true true false f k = let g : false ≡ true = f refl in absurd cc
     by true false true f k = subst (λ i. AbsorbsEach (put_val ts 2 x.value) i)
@@ -307,7 +307,8 @@ stepped_even w o ts h = h
 
 one_done_keeps : (op : OneOp) (w : Width) (arg : Operand) (a c a' c' : Val) (ts vs : List Val) → AbsorbsVal a a' →
     AbsorbsVal c c' → AbsorbsEach ts vs → EvenPc ts →
-    Kept (one_done_val op w arg a c ts) (one_done_val op w arg a' c' vs)
+    Kept (one_done_val blurred_flags op arg a (one_val blurred_flags op w a c) ts)
+    (one_done_val blurred_flags op arg a' (one_val blurred_flags op w a' c') vs)
 one_done_keeps Push w arg a c a' c' ts vs p q r h =
     record {
       core_kept = lowered_keeps ts vs r;
@@ -323,8 +324,8 @@ one_done_keeps Call w arg a c a' c' ts vs p q r h =
 one_done_keeps op w arg a c a' c' ts vs p q r h = written_keeps true arg _ _ ts vs (one_keeps op w a c a' c' p q) r h
 
 pub does_keeps : (insn : Insn) (pc : ℕ) (ts vs xs ys : List Val) → AbsorbsEach ts vs → AbsorbsEach xs ys →
-    Kept (does_val insn pc ts xs) (does_val insn pc vs ys)
-unfolding does_val_as
+    Kept (does_val blurred_flags insn pc ts xs) (does_val blurred_flags insn pc vs ys)
+unfolding does_val
 does_keeps (Two op w s d) pc ts vs xs ys p q =
     let p1 = past_keeps (Two op w s d) pc ts vs p in
     let p2 = stepped_keeps w s _ _ p1 in

@@ -1,7 +1,7 @@
 pub mod Meaning
 pub mod Goes
 pub mod Cores
-pub mod Keepings
+pub mod FlagDomains
 pub mod Effects
 pub mod Plans
 pub mod Stub

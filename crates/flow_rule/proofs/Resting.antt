@@ -27,7 +27,7 @@ use Rattle.flow_rule.specs.declared.Val.TheVariants.{Known, Secret}
 use Rattle.flow_rule.specs.declared.AbstractState.{AbstractState}
 use Rattle.flow_rule.specs.declared.Reach.{Reach}
 use Rattle.flow_rule.specs.declared.Reason.TheVariants.{Arm as ArmInsn, SecretBranch}
-use Rattle.flow_rule.specs.Values.{is_secret, val}
+use Rattle.flow_rule.specs.Values.{is_secret, val, blurred_flags}
 use Rattle.flow_rule.specs.Iterations.{PointState, RuleViolation, FlowStep}
 use Rattle.flow_rule.specs.Does.{plan_val, read_val, writes_val, read_reaches, write_reaches, does_val, past_val}
 use Rattle.flow_rule.specs.Violations.{violation_if, reach_violations}
@@ -142,13 +142,13 @@ module _ (terms : Terms) (m : Module) (text : List ℕ) where
   -- a plain step, over its accesses and what it makes of the call string
   abbrev plain : Insn → ℕ → AbstractState → List Reach → ReturnTurn → FlowStep
   plain insn pc l xs t =
-      let d = does_val insn pc l.core (given l xs) in
+      let d = does_val blurred_flags insn pc l.core (given l xs) in
       also (reach_violations m pc xs ++ t.violations)
       (goes_unless terms t.stops m pc t.call_string d.core (writes_val m l.words (write_reaches xs) d.stored))
 
   is_plain : (insn : Insn) (pc : ℕ) (r : List ℕ) (l : AbstractState) (xs : List Reach) → plan_val insn pc l.core ≡ xs →
       ((vs : List Val) → return_turn insn pc r vs ≡ quiet r) →
-      step_plain terms m text insn (point_state pc r l) ≡ plain insn pc l xs (quiet r)
+      step_plain blurred_flags terms m text insn (point_state pc r l) ≡ plain insn pc l xs (quiet r)
   is_plain insn pc r l xs e turn =
       ap (λ t. plain insn pc l (plan_val insn pc l.core) t) (turn (given l (plan_val insn pc l.core)))
       ∙ ap (λ xs. plain insn pc l xs (quiet r)) e
@@ -171,8 +171,8 @@ module _ (terms : Terms) (m : Module) (text : List ℕ) where
 
   plain_goes : (insn : Insn) (pc : ℕ) (r q : List ℕ) (top low : AbstractState) →
       ((r : List ℕ) (vs : List Val) → return_turn insn pc r vs ≡ quiet r) → Over top low →
-      (step_plain terms m text insn (point_state pc r top)).violations ≡ [] → Some_gives (step_plain terms m text insn (point_state pc r top)) →
-      Goes (Some insn) pc top low (step_plain terms m text insn (point_state pc r top)) (step_plain terms m text insn (point_state pc q low))
+      (step_plain blurred_flags terms m text insn (point_state pc r top)).violations ≡ [] → Some_gives (step_plain blurred_flags terms m text insn (point_state pc r top)) →
+      Goes (Some insn) pc top low (step_plain blurred_flags terms m text insn (point_state pc r top)) (step_plain blurred_flags terms m text insn (point_state pc q low))
   plain_goes insn pc r q top low turn o none g =
       let xs = plan_val insn pc top.core in
       let free : reach_violations m pc xs ≡ [] = none_left _ _ (none_left _ _ none) in
@@ -182,20 +182,20 @@ module _ (terms : Terms) (m : Module) (text : List ℕ) where
       let P : FlowStep → Type 0 = λ s. Some_gives s in
       let k = plain_leads insn pc r q top low xs o free (subst P a g) in
       record {
-        leads = subst (λ s. Leads s (step_plain terms m text insn (point_state pc q low))) (sym a)
+        leads = subst (λ s. Leads s (step_plain blurred_flags terms m text insn (point_state pc q low))) (sym a)
             (subst (λ s. Leads (plain insn pc top xs (quiet r)) s) (sym b) k);
         same_words = λ r r'. ap (λ xs. written_words m (write_reaches xs)) same;
       }
 
   jump_goes : (cn : Condition) (off : ℤ) (pc : ℕ) (r q : List ℕ) (top low : AbstractState) → is_always cn ≡ true → Over top low →
-      Some_gives (step_jump terms m text (Jump cn off) cn (point_state pc r top)) →
-      Goes (Some (Jump cn off)) pc top low (step_jump terms m text (Jump cn off) cn (point_state pc r top))
-      (step_jump terms m text (Jump cn off) cn (point_state pc q low))
+      Some_gives (step_jump blurred_flags terms m text (Jump cn off) cn (point_state pc r top)) →
+      Goes (Some (Jump cn off)) pc top low (step_jump blurred_flags terms m text (Jump cn off) cn (point_state pc r top))
+      (step_jump blurred_flags terms m text (Jump cn off) cn (point_state pc q low))
   unfolding plan_val
   jump_goes cn off pc r q top low always o g = record { leads = by (is_always cn) always g; same_words = λ r r'. refl }
     where
       taken : List ℕ → AbstractState → FlowStep
-      taken r l = goes terms m pc r (does_val (Jump cn off) pc l.core []).core l.words
+      taken r l = goes terms m pc r (does_val blurred_flags (Jump cn off) pc l.core []).core l.words
 
       other : List ℕ → AbstractState → FlowStep
       other r l = also (violation_if (is_secret (val l.core 2)) pc SecretBranch 0)
@@ -208,9 +208,9 @@ module _ (terms : Terms) (m : Module) (text : List ℕ) where
           goes_keeps terms m pc r q _ _ _ _ k.even_pc k.core_kept o.words g
 
   insn_goes : (o : Option Insn) (join next pc : ℕ) (r q : List ℕ) (top low : AbstractState) → arm_next join pc o ≡ Some next →
-      Over top low → (step_insn terms m text o (point_state pc r top)).violations ≡ [] →
-      Some_gives (step_insn terms m text o (point_state pc r top)) →
-      Goes o pc top low (step_insn terms m text o (point_state pc r top)) (step_insn terms m text o (point_state pc q low))
+      Over top low → (step_insn blurred_flags terms m text o (point_state pc r top)).violations ≡ [] →
+      Some_gives (step_insn blurred_flags terms m text o (point_state pc r top)) →
+      Goes o pc top low (step_insn blurred_flags terms m text o (point_state pc r top)) (step_insn blurred_flags terms m text o (point_state pc q low))
   insn_goes None join next pc r q top low on p none g = absurd cc
   insn_goes (Some (Two op w s d)) join next pc r q top low on p none g =
       plain_goes (Two op w s d) pc r q top low (λ r vs. two_quiet join pc next op w s d r vs on) p none g
@@ -228,7 +228,7 @@ module _ (terms : Terms) (m : Module) (text : List ℕ) where
       Some_gives (S (point_state pc r top)) →
       Goes (met m.text text pc) pc top low (S (point_state pc r top)) (S (point_state pc q low))
 
-  plain_alike : Alike (step_of terms m text)
+  plain_alike : Alike (step_of blurred_flags terms m text)
   unfolding step_of
   plain_alike join next pc r q top low even inn on o none g =
       insn_goes (met m.text text pc) join next pc r q top low on o none g
@@ -250,16 +250,16 @@ module _ (terms : Terms) (m : Module) (text : List ℕ) where
           (insn_of w (later_word (text_byte m.text text) pc 2 1) (later_word (text_byte m.text text) pc 2 2))
           ≡ Some next) e on in absurd cc
 
-  stub_alike : m.text.start % 2 ≡ 0 → has_stub m text ≡ true → Alike (step_stub terms m text)
+  stub_alike : m.text.start % 2 ≡ 0 → has_stub m text ≡ true → Alike (step_stub blurred_flags terms m text)
   unfolding step_stub step_of
   stub_alike start stub join next pc r q top low even inn on o none g =
       by (word_number m pc == 17) (is_open (word_number m pc)) refl none g
     where
       from_top : FlowStep
-      from_top = step_of terms m text (point_state pc r top)
+      from_top = step_of blurred_flags terms m text (point_state pc r top)
 
       from_low : FlowStep
-      from_low = step_of terms m text (point_state pc q low)
+      from_low = step_of blurred_flags terms m text (point_state pc q low)
 
       by : (a b : Bool) → (word_number m pc == 17) ≡ a →
           (cond a (step_entries m text (point_state pc r top)) (shut_if b m pc from_top)).violations ≡ [] →
@@ -401,18 +401,18 @@ module _ (terms : Terms) (m : Module) (text : List ℕ) where
             (record { addr = refl; even = kept_even (add16 pc 2); over = first })
             (on_time pc arm.cycles 0 w0 (none_right apart rs0 one)).0,
         walk_same S alike arm.join (suc arm.join)
-            (arm_start insn target (point_state pc r top) (does_val insn pc top.core []).core)
-            (arm_start insn target (point_state pc q low) (does_val insn pc low.core []).core)
+            (arm_start insn target (point_state pc r top) (does_val blurred_flags insn pc top.core []).core)
+            (arm_start insn target (point_state pc q low) (does_val blurred_flags insn pc low.core []).core)
             (record { addr = refl; even = kept_even target; over = second })
             (on_time pc arm.cycles 1 w1 (none_right (apart ++ rs0) rs1 none)).0,
       )
 
   pub arms_rest : (insn : Insn) (target : ℕ) (arm : Arm) (top x : PointState) → m.text.start % 2 ≡ 0 →
       x.point.addr ≡ top.point.addr → Absorbs top.state x.state →
-      (step_arm (flow_step terms m text) m text insn target arm top).violations ≡ [] →
-      Rests (flow_step terms m text) insn target arm top x
+      (step_arm (flow_step blurred_flags terms m text) m text insn target arm top).violations ≡ [] →
+      Rests (flow_step blurred_flags terms m text) insn target arm top x
   arms_rest insn target arm top x even e a none =
-      subst (λ pc. Rests (flow_step terms m text) insn target arm top (point_state pc x.point.call_string x.state)) (sym e)
+      subst (λ pc. Rests (flow_step blurred_flags terms m text) insn target arm top (point_state pc x.point.call_string x.state)) (sym e)
       (by (has_stub m text) refl none)
     where
       low : PointState
@@ -425,8 +425,8 @@ module _ (terms : Terms) (m : Module) (text : List ℕ) where
           (record { core = of_joins _ _ a.core; words = of_joins _ _ a.words }) none
 
       by : (b : Bool) → has_stub m text ≡ b →
-          (step_arm (cond b (step_stub terms m text) (step_of terms m text))
+          (step_arm (cond b (step_stub blurred_flags terms m text) (step_of blurred_flags terms m text))
           m text insn target arm top).violations ≡ [] →
-          Rests (cond b (step_stub terms m text) (step_of terms m text)) insn target arm top low
-      by true stub none = of_step (step_stub terms m text) (stub_alike even stub) none
-      by false stub none = of_step (step_of terms m text) plain_alike none
+          Rests (cond b (step_stub blurred_flags terms m text) (step_of blurred_flags terms m text)) insn target arm top low
+      by true stub none = of_step (step_stub blurred_flags terms m text) (stub_alike even stub) none
+      by false stub none = of_step (step_of blurred_flags terms m text) plain_alike none

@@ -18,14 +18,14 @@ use Rattle.flow_rule.specs.Terms.{Terms, no_terms}
 use Rattle.flow_rule.specs.declared.AbstractState.{AbstractState}
 use Rattle.flow_rule.specs.declared.Val.{Val}
 use Rattle.flow_rule.specs.declared.Val.TheVariants.{Known, Secret}
-use Rattle.flow_rule.specs.Values.{Keeping, is_secret, set_each, val, put_val}
+use Rattle.flow_rule.specs.Values.{FlagDomain, is_secret, set_each, val, put_val, blurred_flags}
 use Rattle.flow_rule.specs.declared.Reason.TheVariants.{Arm as ArmInsn, ArmTime}
 use Rattle.flow_rule.specs.Iterations.{PointState, RuleViolation, FlowStep}
 use Rattle.flow_rule.specs.declared.Reach.{Reach}
 use Rattle.flow_rule.specs.Does.{plan_val, write_reaches, word_no, does_val, past_val}
 use Rattle.flow_rule.specs.declared.Verdict.{Verdict}
 use Rattle.flow_rule.specs.Violations.{violation, violation_if}
-use Rattle.flow_rule.specs.Verdict.{start_under, flow_step, flow_step_as, Decided}
+use Rattle.flow_rule.specs.Verdict.{start_under, flow_step, Decided}
 
 -- what an instruction writes
 abbrev pub stepped_regs : Operand → List ℕ
@@ -99,7 +99,7 @@ first_walk step m text insn arm x =
 
 abbrev pub second_walk : (PointState → FlowStep) → Module → List ℕ → Insn → ℕ → Arm → PointState → Walk
 second_walk step m text insn target arm x =
-    walk step m text arm.join (suc arm.join) (arm_start insn target x (does_val insn x.point.addr x.state.core []).core)
+    walk step m text arm.join (suc arm.join) (arm_start insn target x (does_val blurred_flags insn x.point.addr x.state.core []).core)
 
 -- an arm that stops has a violation by Arm with the address, one of another time by ArmTime with its number
 abbrev pub arm_violations : ℕ → ℕ → ℕ → Walk → List RuleViolation
@@ -136,15 +136,12 @@ unfoldable pub step_arms : (PointState → FlowStep) → List Arm → Module →
 step_arms step arms m text x = step_arms_by (met m.text text x.point.addr) step arms m text x
 
 -- the step under terms and with certificates
-abbrev pub flow_under_as : Keeping → Terms → Module → List ℕ → List Arm → PointState → FlowStep
-flow_under_as k terms m text arms = step_arms (flow_step_as k terms m text) arms m text
-
-abbrev pub flow_under : Terms → Module → List ℕ → List Arm → PointState → FlowStep
-flow_under terms m text arms = step_arms (flow_step terms m text) arms m text
+abbrev pub flow_under : FlagDomain → Terms → Module → List ℕ → List Arm → PointState → FlowStep
+flow_under flags terms m text arms = step_arms (flow_step flags terms m text) arms m text
 
 -- the verdict of a text under terms, with these certificates or with none
 abbrev pub VerdictUnder : Terms → Module → List ℕ → List Arm → Verdict → Type 0
-VerdictUnder terms m text arms a = Decided (flow_under terms m text arms) (start_under terms m text) m.text.start a
+VerdictUnder terms m text arms a = Decided (flow_under blurred_flags terms m text arms) (start_under terms m text) m.text.start a
 
 -- the same where nothing is told
 abbrev pub VerdictWith : Module → List ℕ → List Arm → Verdict → Type 0

@@ -7,7 +7,7 @@ use Rattle.insn_decode.specs.Code.{words_of, length_of, distance}
 use Rattle.sm_words.specs.Status.{has_all_flags}
 use Rattle.sm_words.specs.Sums.{low, one_if}
 use Rattle.cpu_step.specs.declared.result.Computed.{Computed}
-use Rattle.cpu_step.specs.Effect.{value_of, two_result, one_result, in_memory}
+use Rattle.cpu_step.specs.Effect.{value_of, with_flags, two_result, one_result, in_memory}
 use Rattle.cpu_step.specs.Plan.{increment_of, reads_dst, writes_dst}
 use Rattle.sm_words.specs.declared.width.Width.{Width}
 use Rattle.sm_words.specs.declared.width.Width.TheVariants.{Byte, Word}
@@ -28,8 +28,7 @@ use Rattle.arm_balance.specs.Met.{text_byte}
 use Rattle.pc_access.specs.Rights.{misaligned}
 use Rattle.flow_rule.specs.declared.Val.{Val}
 use Rattle.flow_rule.specs.declared.Val.TheVariants.{Known, Secret}
-use Rattle.flow_rule.specs.Values.{over, over_one, blurred, narrow, val, seen, put_val, Keeping, forgotten}
-use Rattle.cpu_step.specs.declared.result.Computed.TheVariants.{Plain, Flagged}
+use Rattle.flow_rule.specs.Values.{over, over_one, blurred, narrow, val, seen, put_val, FlagDomain}
 
 -- ---- accesses
 
@@ -149,25 +148,24 @@ read_if b v = if b then v else Known 0
 
 -- a result's flags
 abbrev pub flags_of : Computed → ℕ
-flags_of (Plain v) = 0
-flags_of (Flagged s) = 1 * one_if s.c + 2 * one_if s.z + 4 * one_if s.n + 256 * one_if s.v
+flags_of res = with_flags res 0
 
 -- what is told of an operation of three values, where it sets flags or not
-abbrev pub told_of_as : Keeping → Bool → (ℕ → ℕ → ℕ → Computed) → Val → Val → Val → Told
-told_of_as k sets f a b c =
-    record { value = over (λ x y z. value_of (f x y z)) a b c; flags = if sets then Some (k.told (λ x y z. flags_of (f x y z)) a b c) else None }
+abbrev pub told_of : FlagDomain → Bool → (ℕ → ℕ → ℕ → Computed) → Val → Val → Val → Told
+told_of flags sets f a b c =
+    record { value = over (λ x y z. value_of (f x y z)) a b c; flags = if sets then Some (flags.told (λ x y z. flags_of (f x y z)) a b c) else None }
 
 -- a word MOV copies
-abbrev pub two_val_as : Keeping → TwoOp → Width → Val → Val → Val → Told
-two_val_as k Mov Word s d c = record { value = s; flags = None }
-two_val_as k op w s d c = told_of_as k (sets_flags op) (two_result op w) s (read_if (reads_dst op) d) (read_if (reads_carry op) c)
+abbrev pub two_val : FlagDomain → TwoOp → Width → Val → Val → Val → Told
+two_val flags Mov Word s d c = record { value = s; flags = None }
+two_val flags op w s d c = told_of flags (sets_flags op) (two_result op w) s (read_if (reads_dst op) d) (read_if (reads_carry op) c)
 
-abbrev pub one_val_as : Keeping → OneOp → Width → Val → Val → Told
-one_val_as k op w a c = told_of_as k (one_sets_flags op) (λ x y z. one_result op w x y) a (read_if (one_reads_carry op) c) (Known 0)
+abbrev pub one_val : FlagDomain → OneOp → Width → Val → Val → Told
+one_val flags op w a c = told_of flags (one_sets_flags op) (λ x y z. one_result op w x y) a (read_if (one_reads_carry op) c) (Known 0)
 
-abbrev pub set_flags_by_as : Keeping → Option Val → List Val → List Val
-set_flags_by_as k None core = core
-set_flags_by_as k (Some f) core = slice_set core 2 (k.held f)
+abbrev pub set_flags_by : FlagDomain → Option Val → List Val → List Val
+set_flags_by flags None core = core
+set_flags_by flags (Some f) core = slice_set core 2 (flags.held f)
 
 abbrev pub given_val : Operand → Width → List Val → List Val → Val
 given_val (Reg r) w core values = narrow w (seen core r)
@@ -179,15 +177,15 @@ abbrev pub after_val : Operand → List Val → List Val
 after_val o values = if in_memory o then drop 1 values else values
 
 -- a result put into a register: SR keeps what is written there, without flags
-abbrev pub into_register_val_as : Keeping → Bool → ℕ → Told → List Val → List Val
-into_register_val_as k true r res core = slice_set core 2 (k.held res.value)
-into_register_val_as k false r res core = put_val (set_flags_by_as k res.flags core) r res.value
+abbrev pub into_register_val : FlagDomain → Bool → ℕ → Told → List Val → List Val
+into_register_val flags true r res core = slice_set core 2 (flags.held res.value)
+into_register_val flags false r res core = put_val (set_flags_by flags res.flags core) r res.value
 
-abbrev pub written_val_as : Keeping → Bool → Operand → Told → List Val → Done_val
-written_val_as k true (Reg r) res core =
-    record { core = into_register_val_as k (r == 2) r res core; stored = [] }
-written_val_as k true _ res core = record { core = set_flags_by_as k res.flags core; stored = res.value ∷ [] }
-written_val_as k false _ res core = record { core = set_flags_by_as k res.flags core; stored = [] }
+abbrev pub written_val : FlagDomain → Bool → Operand → Told → List Val → Done_val
+written_val flags true (Reg r) res core =
+    record { core = into_register_val flags (r == 2) r res core; stored = [] }
+written_val flags true _ res core = record { core = set_flags_by flags res.flags core; stored = res.value ∷ [] }
+written_val flags false _ res core = record { core = set_flags_by flags res.flags core; stored = [] }
 
 -- a word BIC to SR whose source has all four flags makes them 0 in both runs
 abbrev pub clears : Val → Bool
@@ -198,59 +196,31 @@ abbrev pub clears_flags : TwoOp → Width → Operand → Val → Bool
 clears_flags Bic Word (Reg r) s = (r == 2) && clears s
 clears_flags _ w d s = false
 
-abbrev pub cleared_if_as : Keeping → Bool → Done_val → Done_val
-cleared_if_as k c x = record { core = if c then slice_set x.core 2 k.cleared else x.core; stored = x.stored }
+abbrev pub cleared_if : FlagDomain → Bool → Done_val → Done_val
+cleared_if flags c x = record { core = if c then slice_set x.core 2 flags.cleared else x.core; stored = x.stored }
 
 -- the carry, as the flags' value has it
 abbrev pub carry_val : List Val → Val
 carry_val core = over_one (bit 1) (val core 2)
 
--- format II, where the operand is read and its increment is done
-abbrev pub one_done_val_as : Keeping → OneOp → Width → Operand → Val → Val → List Val → Done_val
-one_done_val_as k Push w arg a c core = record { core = lowered_val core; stored = over_one (λ v. v) a ∷ [] }
-one_done_val_as k Call w arg a c core = record { core = put_val (lowered_val core) 0 a; stored = val core 0 ∷ [] }
-one_done_val_as k op w arg a c core = written_val_as k true arg (one_val_as k op w a c) core
+-- format II, where the operand is read, its increment is done and its result is told
+abbrev pub one_done_val : FlagDomain → OneOp → Operand → Val → Told → List Val → Done_val
+one_done_val flags Push arg a told core = record { core = lowered_val core; stored = over_one (λ v. v) a ∷ [] }
+one_done_val flags Call arg a told core = record { core = put_val (lowered_val core) 0 a; stored = val core 0 ∷ [] }
+one_done_val flags op arg a told core = written_val flags true arg told core
 
-unfoldable pub does_val_as : Keeping → Insn → ℕ → List Val → List Val → Done_val
-does_val_as k (Two op w s d) pc core values =
+unfoldable pub does_val : FlagDomain → Insn → ℕ → List Val → List Val → Done_val
+does_val flags (Two op w s d) pc core values =
     let core1 = past_val (Two op w s d) pc core in
     let core2 = stepped_val w s core1 in
     let a = given_val s w core1 values in
     let b = given_val d w core2 (after_val s values) in
-    cleared_if_as k (clears_flags op w d a) (written_val_as k (writes_dst op) d (two_val_as k op w a b (carry_val core)) core2)
-does_val_as k (One op w arg) pc core values =
+    cleared_if flags (clears_flags op w d a) (written_val flags (writes_dst op) d (two_val flags op w a b (carry_val core)) core2)
+does_val flags (One op w arg) pc core values =
     let core1 = past_val (One op w arg) pc core in
     let core2 = stepped_val w arg core1 in
     let a = given_val arg w core1 values in
-    one_done_val_as k op w arg a (carry_val core) core2
-does_val_as k (Jump condition off) pc core values =
+    one_done_val flags op arg a (one_val flags op w a (carry_val core)) core2
+does_val flags (Jump condition off) pc core values =
     record { core = put_val (past_val (Jump condition off) pc core) 0 (Known (add16 (add16 pc 2) (distance off))); stored = [] }
-does_val_as k insn pc core values = record { core = past_val insn pc core; stored = [] }
-
--- ---- the rule that forgets the flags
-abbrev pub told_of : Bool → (ℕ → ℕ → ℕ → Computed) → Val → Val → Val → Told
-told_of x0 x1 x2 x3 x4 = told_of_as forgotten x0 x1 x2 x3 x4
-
-abbrev pub two_val : TwoOp → Width → Val → Val → Val → Told
-two_val x0 x1 x2 x3 x4 = two_val_as forgotten x0 x1 x2 x3 x4
-
-abbrev pub one_val : OneOp → Width → Val → Val → Told
-one_val x0 x1 x2 x3 = one_val_as forgotten x0 x1 x2 x3
-
-abbrev pub set_flags_by : Option Val → List Val → List Val
-set_flags_by x0 x1 = set_flags_by_as forgotten x0 x1
-
-abbrev pub into_register_val : Bool → ℕ → Told → List Val → List Val
-into_register_val x0 x1 x2 x3 = into_register_val_as forgotten x0 x1 x2 x3
-
-abbrev pub written_val : Bool → Operand → Told → List Val → Done_val
-written_val x0 x1 x2 x3 = written_val_as forgotten x0 x1 x2 x3
-
-abbrev pub cleared_if : Bool → Done_val → Done_val
-cleared_if x0 x1 = cleared_if_as forgotten x0 x1
-
-abbrev pub one_done_val : OneOp → Width → Operand → Val → Val → List Val → Done_val
-one_done_val x0 x1 x2 x3 x4 x5 = one_done_val_as forgotten x0 x1 x2 x3 x4 x5
-
-abbrev pub does_val : Insn → ℕ → List Val → List Val → Done_val
-does_val x0 x1 x2 x3 = does_val_as forgotten x0 x1 x2 x3
+does_val flags insn pc core values = record { core = past_val insn pc core; stored = [] }

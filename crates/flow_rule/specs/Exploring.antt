@@ -8,8 +8,8 @@ use Rattle.flow_rule.specs.declared.Val.{Val}
 use Rattle.flow_rule.specs.declared.Val.TheVariants.{Known, Away, Public, Secret}
 use Rattle.flow_rule.specs.Iterations.{PointState, RuleViolation, FlowStep}
 use Rattle.flow_rule.specs.Verdict.{start_knowing}
-use Rattle.flow_rule.specs.Arms.{flow_under_as}
-use Rattle.flow_rule.specs.Values.{followed}
+use Rattle.flow_rule.specs.Arms.{flow_under}
+use Rattle.flow_rule.specs.Values.{known_flags}
 
 -- the first says no more than the second
 abbrev pub says_less : Val → Val → Bool
@@ -47,4 +47,4 @@ explore step keeps (suc n) (x ∷ to_come) kept =
 
 -- a text explored under terms, with these certificates, by so many steps
 abbrev pub explored : Terms → Module → List ℕ → List Arm → (PointState → Bool) → ℕ → Explored
-explored terms m text arms keeps steps = explore (flow_under_as followed terms m text arms) keeps steps (start_knowing (size_of m.ram / 2) terms m text ∷ []) []
+explored terms m text arms keeps steps = explore (flow_under known_flags terms m text arms) keeps steps (start_knowing (size_of m.ram / 2) terms m text ∷ []) []

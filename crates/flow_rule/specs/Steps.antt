@@ -11,10 +11,10 @@ use Rattle.arm_balance.specs.Met.{text_byte, met}
 use Rattle.attest.specs.Units.{UnitName, Unprotect, OwnId, CallerId}
 use Rattle.flow_rule.specs.Terms.{Terms}
 use Rattle.flow_rule.specs.declared.Val.TheVariants.{Public}
-use Rattle.flow_rule.specs.Values.{Keeping, forgotten, is_secret, val, put_val}
+use Rattle.flow_rule.specs.Values.{FlagDomain, is_secret, val, put_val}
 use Rattle.flow_rule.specs.declared.Reason.TheVariants.{SecretBranch, UnknownTarget, Illegal, Unit as UnitWord}
 use Rattle.flow_rule.specs.Iterations.{PointState, FlowStep}
-use Rattle.flow_rule.specs.Does.{plan_val, read_val, writes_val, read_reaches, write_reaches, does_val_as, past_val}
+use Rattle.flow_rule.specs.Does.{plan_val, read_val, writes_val, read_reaches, write_reaches, does_val, past_val}
 use Rattle.flow_rule.specs.Violations.{violation_if, reach_violations}
 use Rattle.flow_rule.specs.Going.{closes, goes, both, also, fails}
 use Rattle.flow_rule.specs.CallStrings.{return_turn}
@@ -22,12 +22,12 @@ use Rattle.cpu_step.specs.Effect.{jumps}
 
 -- reads, the operation, the call string, writes
 -- a return to another place than the newest address is refused
-abbrev pub step_plain_as : Keeping → Terms → Module → List ℕ → Insn → PointState → FlowStep
-step_plain_as k terms m text insn x =
+abbrev pub step_plain : FlagDomain → Terms → Module → List ℕ → Insn → PointState → FlowStep
+step_plain flags terms m text insn x =
     let pc = x.point.addr in
     let xs = plan_val insn pc x.state.core in
     let values = map (read_val m text x.state.words) (read_reaches xs) in
-    let d = does_val_as k insn pc x.state.core values in
+    let d = does_val flags insn pc x.state.core values in
     let t = return_turn insn pc x.point.call_string values in
     also (reach_violations m pc xs ++ t.violations)
     (if t.stops then fails pc UnknownTarget 0 else goes terms m pc t.call_string d.core (writes_val m x.state.words (write_reaches xs) d.stored))
@@ -38,43 +38,27 @@ turns_by (Some f) secret pc condition taken on = if jumps condition f then taken
 turns_by None secret pc condition taken on = also (violation_if secret pc SecretBranch 0) (both taken on)
 
 -- a jump that is always taken has one way; any other has both, and its flags may not be secret
-abbrev pub step_jump_as : Keeping → Terms → Module → List ℕ → Insn → Condition → PointState → FlowStep
-step_jump_as k terms m text insn condition x =
+abbrev pub step_jump : FlagDomain → Terms → Module → List ℕ → Insn → Condition → PointState → FlowStep
+step_jump flags terms m text insn condition x =
     let pc = x.point.addr in
-    let taken = goes terms m pc x.point.call_string (does_val_as k insn pc x.state.core []).core x.state.words in
+    let taken = goes terms m pc x.point.call_string (does_val flags insn pc x.state.core []).core x.state.words in
     if is_always condition then taken
-    else turns_by (k.known (val x.state.core 2)) (is_secret (val x.state.core 2)) pc condition taken (goes terms m pc x.point.call_string (past_val insn pc x.state.core) x.state.words)
+    else turns_by (flags.known (val x.state.core 2)) (is_secret (val x.state.core 2)) pc condition taken (goes terms m pc x.point.call_string (past_val insn pc x.state.core) x.state.words)
 
 -- unprotect closes; own id and caller id are public; the others are refused
-abbrev pub step_unit_as : Keeping → Terms → Module → Insn → UnitName → PointState → FlowStep
-step_unit_as k terms m insn Unprotect x = closes terms x.point.addr x.state.core
-step_unit_as k terms m insn OwnId x = goes terms m x.point.addr x.point.call_string (put_val (past_val insn x.point.addr x.state.core) 15 Public) x.state.words
-step_unit_as k terms m insn CallerId x = goes terms m x.point.addr x.point.call_string (put_val (past_val insn x.point.addr x.state.core) 15 Public) x.state.words
-step_unit_as k terms m insn name x = fails x.point.addr UnitWord (unit_code name)
+abbrev pub step_unit : Terms → Module → Insn → UnitName → PointState → FlowStep
+step_unit terms m insn Unprotect x = closes terms x.point.addr x.state.core
+step_unit terms m insn OwnId x = goes terms m x.point.addr x.point.call_string (put_val (past_val insn x.point.addr x.state.core) 15 Public) x.state.words
+step_unit terms m insn CallerId x = goes terms m x.point.addr x.point.call_string (put_val (past_val insn x.point.addr x.state.core) 15 Public) x.state.words
+step_unit terms m insn name x = fails x.point.addr UnitWord (unit_code name)
 
-abbrev pub step_insn_as : Keeping → Terms → Module → List ℕ → Option Insn → PointState → FlowStep
-step_insn_as k terms m text None x = fails x.point.addr Illegal (word_at (text_byte m.text text) x.point.addr)
-step_insn_as k terms m text (Some Reti) x = fails x.point.addr Illegal (word_at (text_byte m.text text) x.point.addr)
-step_insn_as k terms m text (Some (Jump condition off)) x = step_jump_as k terms m text (Jump condition off) condition x
-step_insn_as k terms m text (Some (UnitOp name)) x = step_unit_as k terms m (UnitOp name) name x
-step_insn_as k terms m text (Some insn) x = step_plain_as k terms m text insn x
+abbrev pub step_insn : FlagDomain → Terms → Module → List ℕ → Option Insn → PointState → FlowStep
+step_insn flags terms m text None x = fails x.point.addr Illegal (word_at (text_byte m.text text) x.point.addr)
+step_insn flags terms m text (Some Reti) x = fails x.point.addr Illegal (word_at (text_byte m.text text) x.point.addr)
+step_insn flags terms m text (Some (Jump condition off)) x = step_jump flags terms m text (Jump condition off) condition x
+step_insn flags terms m text (Some (UnitOp name)) x = step_unit terms m (UnitOp name) name x
+step_insn flags terms m text (Some insn) x = step_plain flags terms m text insn x
 
 -- the step at a point: what is met at its address
-abbrev pub step_of_as : Keeping → Terms → Module → List ℕ → PointState → FlowStep
-step_of_as k terms m text x = step_insn_as k terms m text (met m.text text x.point.addr) x
-
--- ---- the rule that forgets the flags
-abbrev pub step_plain : Terms → Module → List ℕ → Insn → PointState → FlowStep
-step_plain x0 x1 x2 x3 x4 = step_plain_as forgotten x0 x1 x2 x3 x4
-
-abbrev pub step_jump : Terms → Module → List ℕ → Insn → Condition → PointState → FlowStep
-step_jump x0 x1 x2 x3 x4 x5 = step_jump_as forgotten x0 x1 x2 x3 x4 x5
-
-abbrev pub step_unit : Terms → Module → Insn → UnitName → PointState → FlowStep
-step_unit x0 x1 x2 x3 x4 = step_unit_as forgotten x0 x1 x2 x3 x4
-
-abbrev pub step_insn : Terms → Module → List ℕ → Option Insn → PointState → FlowStep
-step_insn x0 x1 x2 x3 x4 = step_insn_as forgotten x0 x1 x2 x3 x4
-
-unfoldable pub step_of : Terms → Module → List ℕ → PointState → FlowStep
-step_of x0 x1 x2 x3 = step_of_as forgotten x0 x1 x2 x3
+abbrev pub step_of : FlagDomain → Terms → Module → List ℕ → PointState → FlowStep
+step_of flags terms m text x = step_insn flags terms m text (met m.text text x.point.addr) x

@@ -14,14 +14,14 @@ use Rattle.arm_balance.specs.Met.{text_byte}
 use Rattle.flow_rule.specs.Terms.{Terms}
 use Rattle.flow_rule.specs.declared.Val.{Val}
 use Rattle.flow_rule.specs.declared.Val.TheVariants.{Known}
-use Rattle.flow_rule.specs.Values.{Keeping, forgotten, val, put_val}
+use Rattle.flow_rule.specs.Values.{FlagDomain, val, put_val}
 use Rattle.flow_rule.specs.declared.Reason.TheVariants.{UnknownTarget}
 use Rattle.flow_rule.specs.Iterations.{PointState, RuleViolation, FlowStep}
 use Rattle.flow_rule.specs.declared.Reach.{Reach}
 use Rattle.flow_rule.specs.Does.{writes_val, past_val, lowered_val}
 use Rattle.flow_rule.specs.Violations.{violation_if, reach_violations}
 use Rattle.flow_rule.specs.CallStrings.{calls}
-use Rattle.flow_rule.specs.Steps.{step_of_as}
+use Rattle.flow_rule.specs.Steps.{step_of}
 
 -- word k of the text
 abbrev pub text_word : Module → List ℕ → ℕ → ℕ
@@ -96,10 +96,7 @@ step_entries m text x =
     }
 
 -- the call goes to each entry; every other word does its own step
-abbrev pub step_stub_as : Keeping → Terms → Module → List ℕ → PointState → FlowStep
-step_stub_as k0 terms m text x =
+abbrev pub step_stub : FlagDomain → Terms → Module → List ℕ → PointState → FlowStep
+step_stub flags terms m text x =
     let k = word_number m x.point.addr in
-    if k == call_word then step_entries m text x else shut_if (is_open k) m x.point.addr (step_of_as k0 terms m text x)
-
-unfoldable pub step_stub : Terms → Module → List ℕ → PointState → FlowStep
-step_stub terms m text x = step_stub_as forgotten terms m text x
+    if k == call_word then step_entries m text x else shut_if (is_open k) m x.point.addr (step_of flags terms m text x)

@@ -7,13 +7,13 @@ use Rattle.entry_stubs.specs.Stub.{body_word}
 use Rattle.flow_rule.specs.Terms.{Terms}
 use Rattle.flow_rule.specs.declared.Val.{Val}
 use Rattle.flow_rule.specs.declared.Val.TheVariants.{Known, Away, Public, Secret}
-use Rattle.flow_rule.specs.Values.{Keeping, set_each}
+use Rattle.flow_rule.specs.Values.{FlagDomain, set_each}
 use Rattle.flow_rule.specs.declared.Reason.TheVariants.{TooMany}
 use Rattle.flow_rule.specs.Iterations.{PointState, RuleViolation, FlowStep, IsLabelling, iterations, all_violations}
 use Rattle.flow_rule.specs.Does.{word_no}
 use Rattle.flow_rule.specs.Violations.{BeforeAll, AmongThem}
-use Rattle.flow_rule.specs.Steps.{step_of, step_of_as}
-use Rattle.flow_rule.specs.Stub.{has_stub, step_stub, step_stub_as}
+use Rattle.flow_rule.specs.Steps.{step_of}
+use Rattle.flow_rule.specs.Stub.{has_stub, step_stub}
 
 -- of how many data words, from the first on, a state knows something
 abbrev pub known_words : ℕ
@@ -42,11 +42,8 @@ abbrev pub start_under : Terms → Module → List ℕ → PointState
 start_under terms m text = start_knowing known_words terms m text
 
 -- the step of a text, with or without a stub
-abbrev pub flow_step_as : Keeping → Terms → Module → List ℕ → PointState → FlowStep
-flow_step_as k terms m text = if has_stub m text then step_stub_as k terms m text else step_of_as k terms m text
-
-abbrev pub flow_step : Terms → Module → List ℕ → PointState → FlowStep
-flow_step terms m text = if has_stub m text then step_stub terms m text else step_of terms m text
+abbrev pub flow_step : FlagDomain → Terms → Module → List ℕ → PointState → FlowStep
+flow_step flags terms m text = if has_stub m text then step_stub flags terms m text else step_of flags terms m text
 
 -- Yes where no point of the labelling has a violation; No with the least; TooMany as soon as an iteration has too many
 abbrev pub Decided : (PointState → FlowStep) → PointState → ℕ → Verdict → Type 0

@@ -10,7 +10,7 @@ use Rattle.arm_balance.specs.Met.{met}
 use Rattle.flow_rule.specs.Arms.{step_branch, step_arms_by, step_arms, flow_under, VerdictUnder}
 use Rattle.flow_rule.specs.Iterations.{PointState, RuleViolation, FlowStep, given_by, given_points, iterations, all_violations}
 use Rattle.flow_rule.specs.Terms.{Terms}
-use Rattle.flow_rule.specs.Values.{is_secret, val}
+use Rattle.flow_rule.specs.Values.{is_secret, val, blurred_flags}
 use Rattle.flow_rule.specs.Verdict.{Decided, flow_step, most_points, start_under}
 use Rattle.flow_rule.specs.Violations.{AmongThem}
 use Rattle.flow_rule.specs.declared.Verdict.{Verdict}
@@ -90,33 +90,33 @@ module _ (now other : Terms) (above below : PointState → FlowStep) (follows : 
       absurd (omega (arith, d.1, few, no_more xs ts (distinct_iterations below low d.0) (iterations_held l d.0)))
 
 -- ---- without certificates
-plain : (terms : Terms) (m : Module) (text : List ℕ) (x : PointState) → flow_under terms m text [] x ≡ flow_step terms m text x
+plain : (terms : Terms) (m : Module) (text : List ℕ) (x : PointState) → flow_under blurred_flags terms m text [] x ≡ flow_step blurred_flags terms m text x
 unfolding step_arms
 plain terms m text x = by (met m.text text x.point.addr)
   where
-    branch : (b : Bool) (insn : Insn) (target : ℕ) → cond b (step_branch None (flow_step terms m text) m text insn x target) (flow_step terms m text x) ≡ flow_step terms m text x
+    branch : (b : Bool) (insn : Insn) (target : ℕ) → cond b (step_branch None (flow_step blurred_flags terms m text) m text insn x target) (flow_step blurred_flags terms m text x) ≡ flow_step blurred_flags terms m text x
     branch true insn target = refl
     branch false insn target = refl
 
-    by : (o : Option Insn) → step_arms_by o (flow_step terms m text) [] m text x ≡ flow_step terms m text x
+    by : (o : Option Insn) → step_arms_by o (flow_step blurred_flags terms m text) [] m text x ≡ flow_step blurred_flags terms m text x
     by (Some (Jump condition off)) =
         branch (not (is_always condition) && is_secret (val x.state.core 2)) (Jump condition off)
         (add16 (add16 x.point.addr 2) (distance off))
     by _ = refl
 
 module _ (now other : Terms) (m : Module) (text : List ℕ) where
-  under_follows : Below now other (flow_under other m text []) (flow_under now m text [])
+  under_follows : Below now other (flow_under blurred_flags other m text []) (flow_under blurred_flags now m text [])
   under_follows top low l e =
       let here = plain other m text top in
       let there = plain now m text low in
       let f = step_below now other m text top low l (ap (λ s. s.violations) (sym here) ∙ e) in
-      subst (λ s. Follows now other s (flow_under now m text [] low)) (sym here)
-      (subst (λ s. Follows now other (flow_step other m text top) s) (sym there) f)
+      subst (λ s. Follows now other s (flow_under blurred_flags now m text [] low)) (sym here)
+      (subst (λ s. Follows now other (flow_step blurred_flags other m text top) s) (sym there) f)
 
   pub verdict_forgiven : ((a : ℕ) → on_list other.public a ≡ true → on_list now.public a ≡ true) →
       VerdictUnder other m text [] Yes → (v : Verdict) → VerdictUnder now m text [] v → IsForgiven now other v
   verdict_forgiven more d v is =
-      let above = flow_under other m text [] in
-      decided_forgiven now other above (flow_under now m text []) under_follows (start_under other m text)
+      let above = flow_under blurred_flags other m text [] in
+      decided_forgiven now other above (flow_under blurred_flags now m text []) under_follows (start_under other m text)
       (start_under now m text) d.0 (settled above (start_under other m text) d.0 d.1 d.3) m.text.start v
       (start_lower m now other text more) d.2 is

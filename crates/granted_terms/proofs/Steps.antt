@@ -22,7 +22,7 @@ use Rattle.flow_rule.specs.declared.Val.TheVariants.{Known, Away, Public, Secret
 use Rattle.flow_rule.specs.declared.AbstractState.{AbstractState}
 use Rattle.flow_rule.specs.declared.Reach.{Reach}
 use Rattle.flow_rule.specs.declared.Reason.TheVariants.{SecretBranch, UnknownTarget}
-use Rattle.flow_rule.specs.Values.{is_secret, val}
+use Rattle.flow_rule.specs.Values.{is_secret, val, blurred_flags}
 use Rattle.flow_rule.specs.Iterations.{ProgramPoint, PointState, RuleViolation, FlowStep}
 use Rattle.flow_rule.specs.Does.{plan_val, read_val, writes_val, read_reaches, write_reaches, does_val, past_val, lowered_val}
 use Rattle.flow_rule.specs.Violations.{violation_if, reach_violations}
@@ -80,7 +80,7 @@ read m text l xs = map (read_val m text l.words) (read_reaches xs)
 -- a plain step, over its accesses and what it makes of the call string
 abbrev plain : Terms → Module → List ℕ → Insn → ℕ → AbstractState → List Reach → ReturnTurn → FlowStep
 plain terms m text insn pc l xs t =
-    let does = does_val insn pc l.core (read m text l xs) in
+    let does = does_val blurred_flags insn pc l.core (read m text l xs) in
     also (reach_violations m pc xs ++ t.violations)
     (goes_unless terms t.stops m pc t.call_string does.core (writes_val m l.words (write_reaches xs) does.stored))
 
@@ -165,13 +165,13 @@ module _ (now other : Terms) where
 
   -- ---- an instruction
   module _ (m : Module) (text : List ℕ) (pc : ℕ) (r : List ℕ) (top low : AbstractState) (p : AbsorbsEach top.core low.core) (d : AbsorbsEach top.words low.words) where
-    plain_follows : (insn : Insn) → (step_plain other m text insn (point_state pc r top)).violations ≡ [] →
-        Follows now other (step_plain other m text insn (point_state pc r top)) (step_plain now m text insn (point_state pc r low))
+    plain_follows : (insn : Insn) → (step_plain blurred_flags other m text insn (point_state pc r top)).violations ≡ [] →
+        Follows now other (step_plain blurred_flags other m text insn (point_state pc r top)) (step_plain blurred_flags now m text insn (point_state pc r low))
     plain_follows insn e =
         let xs = plan_val insn pc top.core in
         let given : AbstractState → List Val = λ l. read m text l xs in
         let t = return_turn insn pc r (given top) in
-        let does = does_val insn pc top.core (given top) in
+        let does = does_val blurred_flags insn pc top.core (given top) in
         let rs = reach_violations m pc xs ++ t.violations in
         let words = writes_val m top.words (write_reaches xs) does.stored in
         let next = goes_unless other t.stops m pc t.call_string does.core words in
@@ -184,19 +184,19 @@ module _ (now other : Terms) where
         same_plan m pc insn top.core low.core p (none_left (reach_violations m pc xs) t.violations calm) in
         let turn : return_turn insn pc r (given low) ≡ t =
         turn_same insn pc r (given top) (given low) reads (goes_on m pc t.call_string _ _ _ _ done.core_kept stored t.stops onward) in
-        let same : step_plain now m text insn (point_state pc r low) ≡ plain now m text insn pc low xs t =
+        let same : step_plain blurred_flags now m text insn (point_state pc r low) ≡ plain now m text insn pc low xs t =
         ap (λ ys. plain now m text insn pc low ys (return_turn insn pc r (read m text low ys))) plans
         ∙ ap (plain now m text insn pc low xs) turn in
-        subst (λ s. Follows now other (step_plain other m text insn (point_state pc r top)) s) (sym same)
+        subst (λ s. Follows now other (step_plain blurred_flags other m text insn (point_state pc r top)) s) (sym same)
         (also_follows rs rs _ _ calm (unless_follows m pc t.call_string _ _ _ _ done.core_kept stored t.stops onward))
 
-    jump_follows : (cn : Condition) (off : ℤ) → (step_jump other m text (Jump cn off) cn (point_state pc r top)).violations ≡ [] →
-        Follows now other (step_jump other m text (Jump cn off) cn (point_state pc r top))
-        (step_jump now m text (Jump cn off) cn (point_state pc r low))
+    jump_follows : (cn : Condition) (off : ℤ) → (step_jump blurred_flags other m text (Jump cn off) cn (point_state pc r top)).violations ≡ [] →
+        Follows now other (step_jump blurred_flags other m text (Jump cn off) cn (point_state pc r top))
+        (step_jump blurred_flags now m text (Jump cn off) cn (point_state pc r low))
     jump_follows cn off e = by (is_always cn) e
       where
         taken : Terms → AbstractState → FlowStep
-        taken terms l = goes terms m pc r (does_val (Jump cn off) pc l.core []).core l.words
+        taken terms l = goes terms m pc r (does_val blurred_flags (Jump cn off) pc l.core []).core l.words
 
         passed : Terms → AbstractState → FlowStep
         passed terms l = goes terms m pc r (past_val (Jump cn off) pc l.core) l.words
@@ -237,16 +237,16 @@ module _ (now other : Terms) where
         goes_follows m pc r _ _ _ _ (put_keeps _ _ 15 Public Public (past_keeps (UnitOp CallerId) pc top.core low.core p) tt) d e
     unit_follows _ e = absurd cc
 
-    insn_follows : (o : Option Insn) → (step_insn other m text o (point_state pc r top)).violations ≡ [] →
-        Follows now other (step_insn other m text o (point_state pc r top)) (step_insn now m text o (point_state pc r low))
+    insn_follows : (o : Option Insn) → (step_insn blurred_flags other m text o (point_state pc r top)).violations ≡ [] →
+        Follows now other (step_insn blurred_flags other m text o (point_state pc r top)) (step_insn blurred_flags now m text o (point_state pc r low))
     insn_follows None e = absurd cc
     insn_follows (Some Reti) e = absurd cc
     insn_follows (Some (Jump cn off)) e = jump_follows cn off e
     insn_follows (Some (UnitOp name)) e = unit_follows name e
     insn_follows (Some insn) e = plain_follows insn e
 
-    of_follows : (step_of other m text (point_state pc r top)).violations ≡ [] →
-        Follows now other (step_of other m text (point_state pc r top)) (step_of now m text (point_state pc r low))
+    of_follows : (step_of blurred_flags other m text (point_state pc r top)).violations ≡ [] →
+        Follows now other (step_of blurred_flags other m text (point_state pc r top)) (step_of blurred_flags now m text (point_state pc r low))
     unfolding step_of
     of_follows e = insn_follows (met m.text text pc) e
 
@@ -290,8 +290,8 @@ module _ (now other : Terms) where
           gives = f.gives;
         }
 
-    stub_follows : (step_stub other m text (point_state pc r top)).violations ≡ [] →
-        Follows now other (step_stub other m text (point_state pc r top)) (step_stub now m text (point_state pc r low))
+    stub_follows : (step_stub blurred_flags other m text (point_state pc r top)).violations ≡ [] →
+        Follows now other (step_stub blurred_flags other m text (point_state pc r top)) (step_stub blurred_flags now m text (point_state pc r low))
     unfolding step_stub
     stub_follows e = by (word_number m pc == call_word) e
       where
@@ -299,10 +299,10 @@ module _ (now other : Terms) where
         here = is_open (word_number m pc)
 
         top_step : FlowStep
-        top_step = step_of other m text (point_state pc r top)
+        top_step = step_of blurred_flags other m text (point_state pc r top)
 
         low_step : FlowStep
-        low_step = step_of now m text (point_state pc r low)
+        low_step = step_of blurred_flags now m text (point_state pc r low)
 
         by : (b : Bool) →
             (cond b (step_entries m text (point_state pc r top)) (shut_if here m pc top_step)).violations ≡ [] →
@@ -312,17 +312,17 @@ module _ (now other : Terms) where
         by false e = shut_follows here top_step low_step (λ e. of_follows e) e
 
   pub step_below : (m : Module) (text : List ℕ) (top low : PointState) → Lower top low →
-      (flow_step other m text top).violations ≡ [] →
-      Follows now other (flow_step other m text top) (flow_step now m text low)
+      (flow_step blurred_flags other m text top).violations ≡ [] →
+      Follows now other (flow_step blurred_flags other m text top) (flow_step blurred_flags now m text low)
   step_below m text top low l e =
-      subst (λ point. Follows now other (flow_step other m text top) (flow_step now m text (record { point = point; state = low.state })))
+      subst (λ point. Follows now other (flow_step blurred_flags other m text top) (flow_step blurred_flags now m text (record { point = point; state = low.state })))
       (sym l.point) (by (has_stub m text) e)
     where
       beside : PointState
       beside = record { point = top.point; state = low.state }
 
-      by : (b : Bool) → (cond b (step_stub other m text) (step_of other m text) top).violations ≡ [] →
-          Follows now other (cond b (step_stub other m text) (step_of other m text) top)
-          (cond b (step_stub now m text) (step_of now m text) beside)
+      by : (b : Bool) → (cond b (step_stub blurred_flags other m text) (step_of blurred_flags other m text) top).violations ≡ [] →
+          Follows now other (cond b (step_stub blurred_flags other m text) (step_of blurred_flags other m text) top)
+          (cond b (step_stub blurred_flags now m text) (step_of blurred_flags now m text) beside)
       by true e = stub_follows m text top.point.addr top.point.call_string top.state low.state l.core l.words e
       by false e = of_follows m text top.point.addr top.point.call_string top.state low.state l.core l.words e

@@ -9,6 +9,7 @@ use Rattle.mod_layout.specs.Tables.{IsModule}
 use Rattle.image_text.specs.Image.{IsImage}
 use Rattle.arm_balance.specs.declared.Arm.{Arm}
 use Rattle.arm_balance.specs.Met.{met}
+use Rattle.flow_rule.specs.Values.{blurred_flags}
 use Rattle.flow_rule.specs.Terms.{no_terms}
 use Rattle.flow_rule.specs.declared.Verdict.TheVariants.{Yes}
 use Rattle.flow_rule.specs.Does.{plan_val, does_val}
@@ -109,7 +110,7 @@ balanced_text = refl
 blind_accepted : VerdictWith (row_module 0x0306) (bytes_of blind) [] Yes
 unfolding bytes_of step_arms met step_of step_stub has_stub plan_val does_val insn_of
 blind_accepted =
-    let step : PointState → FlowStep = flow_under no_terms (row_module 0x0306) (bytes_of blind) [] in
+    let step : PointState → FlowStep = flow_under blurred_flags no_terms (row_module 0x0306) (bytes_of blind) [] in
     let start : PointState = start_under no_terms (row_module 0x0306) (bytes_of blind) in
     (iterations step start 3, record { iterations_to = 3; is = refl; stays = refl }, lit≤ tt, refl)
 
@@ -117,13 +118,13 @@ unfoldable pub meet : List Arm
 meet = record { branch = 0x0304; join = 0x0318; cycles = 6 } ∷ []
 
 abbrev balanced_points : ℕ → List PointState
-balanced_points n = iterations (flow_under no_terms (row_module 0x0322) (bytes_of balanced) meet) (start_under no_terms (row_module 0x0322) (bytes_of balanced)) n
+balanced_points n = iterations (flow_under blurred_flags no_terms (row_module 0x0322) (bytes_of balanced) meet) (start_under no_terms (row_module 0x0322) (bytes_of balanced)) n
 
 balanced_stays : balanced_points 6 ≡ balanced_points 5
 unfolding bytes_of meet step_arms met step_of step_stub has_stub plan_val does_val insn_of cycles_of
 balanced_stays = refl
 
-balanced_violations : all_violations (flow_under no_terms (row_module 0x0322) (bytes_of balanced) meet) (balanced_points 5) ≡ []
+balanced_violations : all_violations (flow_under blurred_flags no_terms (row_module 0x0322) (bytes_of balanced) meet) (balanced_points 5) ≡ []
 unfolding bytes_of meet step_arms met step_of step_stub has_stub plan_val does_val insn_of cycles_of
 balanced_violations = refl
 

@@ -1,6 +1,7 @@
 use Rattle.std.proofs.Common.{◌≡◌, [], subst, List, ℕ}
 use Rattle.mod_layout.specs.declared.Module.{Module}
 use Rattle.arm_balance.specs.declared.Arm.{Arm}
+use Rattle.flow_rule.specs.Values.{blurred_flags}
 use Rattle.flow_rule.specs.declared.Verdict.TheVariants.{Yes}
 use Rattle.flow_rule.specs.Terms.{Terms}
 use Rattle.flow_rule.specs.Iterations.{PointState}
@@ -20,10 +21,10 @@ returns-clause-verdict c =
     let arms : List Arm = c.args.arms.now.list.items in
     let start : PointState = record { point = record { addr = c.begins-start.result; call_string = [] }; state = c.first-state.result } in
     let stub : IsStub m text c.entries-entries.result = record { is = c.entries-entries.ensures.is; high = c.requires.text.high; even = c.requires.text.even_start } in
-    IfOk-weaker c.verdict.result (λ v. Decided (flow_under terms m text c.as_slice.result.now) start m.text.start v) (λ v. VerdictUnder terms m text arms v)
-    (λ v h. subst (λ s. Decided (flow_under terms m text arms) s m.text.start v)
+    IfOk-weaker c.verdict.result (λ v. Decided (flow_under blurred_flags terms m text c.as_slice.result.now) start m.text.start v) (λ v. VerdictUnder terms m text arms v)
+    (λ v h. subst (λ s. Decided (flow_under blurred_flags terms m text arms) s m.text.start v)
     (start_is terms m text c.entries-entries.result c.is_some-stub.result c.begins-start.result c.first-state.result stub c.is_some-stub.ensures c.begins-start.ensures.plain c.begins-start.ensures.stub c.first-state.ensures)
-    (subst (λ arms. Decided (flow_under terms m text arms) start m.text.start v) c.as_slice.ensures.value h))
+    (subst (λ arms. Decided (flow_under blurred_flags terms m text arms) start m.text.start v) c.as_slice.ensures.value h))
     c.verdict.ensures
 
 pub returns-clause-even : goal.returns-clause-even

@@ -1,5 +1,6 @@
 -- The rule of flow over a program.
 use Rattle.std.specs.Prelude.{ℕ}
+use Rattle.flow_rule.specs.Values.{blurred_flags}
 use Rattle.flow_rule.specs.Iterations.{PointState, FlowStep}
 use Rattle.flow_rule.specs.Verdict.{flow_step}
 use Rattle.flow_rule.specs.Arms.{Walk, walk, first_walk, second_walk, flow_under, step_arm}
@@ -9,11 +10,11 @@ use Rattle.flow_check.specs.internal.Terms.{terms_in}
 
 -- the step of a point
 abbrev pub flow : Program → PointState → FlowStep
-flow p = flow_under (terms_in p) p.module.now p.text.now p.arms.now
+flow p = flow_under blurred_flags (terms_in p) p.module.now p.text.now p.arms.now
 
 -- the same but for branches with a certificate
 abbrev pub base_flow : Program → PointState → FlowStep
-base_flow p = flow_step (terms_in p) p.module.now p.text.now
+base_flow p = flow_step blurred_flags (terms_in p) p.module.now p.text.now
 
 -- the step of a branch by its certificate
 abbrev pub flow_at : Program → BranchSite → PointState → FlowStep

@@ -7,7 +7,7 @@ use Rattle.flow_rule.specs.Terms.{Terms}
 use Rattle.flow_rule.specs.declared.AbstractState.{AbstractState}
 use Rattle.flow_rule.specs.declared.Val.TheVariants.{Public}
 use Rattle.flow_rule.specs.Iterations.{FlowStep}
-use Rattle.flow_rule.specs.Values.{put_val}
+use Rattle.flow_rule.specs.Values.{put_val, blurred_flags}
 use Rattle.flow_rule.specs.Does.{does_val, past_val}
 use Rattle.flow_rule.specs.Going.{goes}
 use Rattle.flow_check.specs.declared.call_string.CallString.{CallString}
@@ -34,7 +34,7 @@ pub record Gives (step : FlowStep) (new : Stepped) (state : AbstractState) : Typ
 
 -- the step to where a jump goes
 abbrev pub jump_step : Terms → Module → Insn → ℕ → CallString → AbstractState → FlowStep
-jump_step terms m insn pc call_string state = goes terms m pc (list_of call_string) (does_val insn pc state.core []).core state.words
+jump_step terms m insn pc call_string state = goes terms m pc (list_of call_string) (does_val blurred_flags insn pc state.core []).core state.words
 
 -- the step to the next instruction
 abbrev pub next_step : Terms → Module → Insn → ℕ → CallString → AbstractState → FlowStep

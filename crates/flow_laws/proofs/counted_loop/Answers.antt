@@ -2,12 +2,12 @@ use Rattle.flow_laws.proofs.Told.{always_or}
 use Rattle.std.proofs.Common.{refl}
 use Rattle.insn_decode.specs.Code.{insn_of}
 use Rattle.arm_balance.specs.Met.{met}
-use Rattle.flow_rule.specs.Does.{plan_val, does_val_as}
+use Rattle.flow_rule.specs.Does.{plan_val, does_val}
 use Rattle.flow_rule.specs.Steps.{step_of}
 use Rattle.flow_rule.specs.Stub.{step_stub, has_stub}
 use Rattle.flow_rule.specs.Arms.{step_arms}
 use Rattle.flow_laws.proofs.counted_loop.Goals as goal
 
 pub returns : goal.returns
-unfolding met step_of step_stub has_stub plan_val does_val_as insn_of step_arms
+unfolding met step_of step_stub has_stub plan_val does_val insn_of step_arms
 returns c = record { complete = refl }

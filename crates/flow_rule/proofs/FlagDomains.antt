@@ -3,16 +3,16 @@ use Rattle.std.proofs.Common.{◌≡◌, ℕ, ◌∷◌, [], refl, sym, ap, ◌�
 use Rattle.mod_layout.specs.declared.Section.{Section}
 use Rattle.flow_rule.specs.declared.Val.{Val}
 use Rattle.flow_rule.specs.declared.Val.TheVariants.{Known, Away, Public, Secret}
-use Rattle.flow_rule.specs.Values.{Keeping, forgotten, followed, flags_in, over, over_one, blurred, known_number}
+use Rattle.flow_rule.specs.Values.{FlagDomain, blurred_flags, known_flags, flags_in, over, over_one, blurred, known_number}
 use Rattle.flow_rule.proofs.Meaning.{Agrees, over_agrees, over_one_agrees, public}
 
-pub record Keeps (keeping : Keeping) : Type 0 where
-  pub told : (s : Section) (f : ℕ → ℕ → ℕ → ℕ) (u v w : Val) (a b c a' b' c' : ℕ) → Agrees s u a a' → Agrees s v b b' → Agrees s w c c' → Agrees s (keeping.told f u v w) (f a b c) (f a' b' c')
-  pub held : (s : Section) (w : Val) (a b : ℕ) → Agrees s w a b → Agrees s (keeping.held w) (flags_in a) (flags_in b)
-  pub cleared : (s : Section) → Agrees s keeping.cleared 0 0
-  pub known : (s : Section) (u : Val) (f a b : ℕ) → keeping.known u ≡ Some f → Agrees s u a b → (a ≡ f) × (b ≡ f)
+pub record SoundFlags (domain : FlagDomain) : Type 0 where
+  pub told : (s : Section) (f : ℕ → ℕ → ℕ → ℕ) (u v w : Val) (a b c a' b' c' : ℕ) → Agrees s u a a' → Agrees s v b b' → Agrees s w c c' → Agrees s (domain.told f u v w) (f a b c) (f a' b' c')
+  pub held : (s : Section) (w : Val) (a b : ℕ) → Agrees s w a b → Agrees s (domain.held w) (flags_in a) (flags_in b)
+  pub cleared : (s : Section) → Agrees s domain.cleared 0 0
+  pub known : (s : Section) (u : Val) (f a b : ℕ) → domain.known u ≡ Some f → Agrees s u a b → (a ≡ f) × (b ≡ f)
 
-pub follows : Keeps followed
+pub follows : SoundFlags known_flags
 follows =
     record {
       told = λ s f u v w a b c a' b' c' p q r. over_agrees s f u v w a b c a' b' c' p q r;
@@ -25,7 +25,7 @@ follows =
     number (Known v) f a b s e h = let g : v ≡ f = cc in (h.0 ∙ g, h.1 ∙ g)
     number _ f a b s e h = absurd cc
 
-pub forgets : Keeps forgotten
+pub forgets : SoundFlags blurred_flags
 forgets =
     record {
       told = λ s f u v w a b c a' b' c' p q r. blurs s f u v w a b c a' b' c' p q r;
