@@ -108,13 +108,11 @@ shut_after m pc s ts o0 o1 o2 e1 et e2 =
     e2 ∙ ap (λ t. noted (shut_at m pc t) o1) et ∙ ap (λ rs. noted rs o1) (sym (shut_same m pc s.gives)) ∙ ap (noted (shut_violations m pc s.gives)) e1 ∙ sym (noted_append s.violations (shut_violations m pc s.gives) o0)
 
 pub stub_open : (terms : Terms) (m : Module) (text : List ℕ) (x : PointState) → (word_number m x.point.addr == 17) ≡ false → is_open (word_number m x.point.addr) ≡ true → step_of blurred_flags terms m text x ≡ step_stub blurred_flags terms m text x
-unfolding step_stub step_of
 stub_open terms m text x e f =
     sym (ap (λ b. cond b (step_entries m text x) (shut_if (is_open (word_number m x.point.addr)) m x.point.addr (step_of blurred_flags terms m text x))) e
     ∙ ap (λ b. shut_if b m x.point.addr (step_of blurred_flags terms m text x)) f)
 
 pub stub_shut : (terms : Terms) (m : Module) (text : List ℕ) (x : PointState) → (word_number m x.point.addr == 17) ≡ false → is_open (word_number m x.point.addr) ≡ false → shut_if false m x.point.addr (step_of blurred_flags terms m text x) ≡ step_stub blurred_flags terms m text x
-unfolding step_stub step_of
 stub_shut terms m text x e f =
     sym (ap (λ b. cond b (step_entries m text x) (shut_if (is_open (word_number m x.point.addr)) m x.point.addr (step_of blurred_flags terms m text x))) e
     ∙ ap (λ b. shut_if b m x.point.addr (step_of blurred_flags terms m text x)) f)

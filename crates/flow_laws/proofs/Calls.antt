@@ -24,7 +24,7 @@ use Rattle.flow_rule.specs.Verdict.{known_words, no_secret, start_point, start_k
 use Rattle.flow_laws.proofs.Words.{Shape, IsData}
 use Rattle.flow_laws.proofs.Labelling.{Among, Closed, closed}
 use Rattle.flow_laws.proofs.Ways.{OnWay, unrolled_closed}
-use Rattle.flow_rule.specs.Unrolling.{UnrolledUnder, IsUnrolled}
+use Rattle.flow_laws.specs.internal.Unrolling.{UnrolledUnder, IsUnrolled}
 use Rattle.flow_laws.proofs.Runs.{Sound}
 use Rattle.flow_laws.specs.Releases.{Release, SomeDiffer, released_at, releasing, ToldApart}
 use Rattle.flow_laws.proofs.Told.{EndsOr, point_opens, always_or}
@@ -166,7 +166,6 @@ weaker answers R (Exit c d k) (Exit c' d' k') h = (h.0, h.1, λ e. h.2)
 weaker answers R _ _ h = absurd h
 
 pub one_call : (terms : Terms) (key : List ℕ) (m : Module) (text : List ℕ) (arms : List Arm) → IsSection m.text → IsSection m.ram → VerdictUnder terms m text arms Yes → CallsAlike terms key m text
-unfolding step_stub step_of
 one_call terms key m text arms t r v =
     alike_alone terms key m text (any_with blurred_flags forgets [] known_words terms key m text arms (λ z. Among z v.0) (shape_of m t r) (closed (flow_under blurred_flags terms m text arms) (start_under terms m text) v.0 v.1 v.3))
 

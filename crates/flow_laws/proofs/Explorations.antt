@@ -1,16 +1,13 @@
 -- An exploration that is complete unrolls the text.
 use Rattle.std.proofs.Common.{◌≡◌, ◌⊎◌, inl, inr, ℕ, zero, suc, List, [], ◌∷◌, ◌++◌, refl, sym, ap, ◌∙◌, subst, Bool, true, false, cond, ◌||◌}
 use Rattle.flow_rule.specs.Iterations.{PointState, RuleViolation, FlowStep}
-use Rattle.flow_rule.specs.Exploring.{is_known, Explored, Complete, Violated, Unfinished, explore}
-use Rattle.flow_rule.specs.Unrolling.{Each, Leads, GoesOn, IsUnrolled}
+use Rattle.flow_laws.specs.Exploring.{is_known, Taken, Goes, Fails, Overflows, Explored, Complete, Violated, Unfinished, on_top, within, unless_wrong, take_state, explore_on, explore}
+use Rattle.flow_laws.specs.internal.Unrolling.{Each, Leads, GoesOn, IsUnrolled}
 
-each_left : (P : PointState → Type 0) (xs ys : List PointState) → Each P (xs ++ ys) → Each P xs
-each_left P [] ys h = tt
-each_left P (x ∷ xs) ys h = (h.0, each_left P xs ys h.1)
-
-each_right : (P : PointState → Type 0) (xs ys : List PointState) → Each P (xs ++ ys) → Each P ys
-each_right P [] ys h = h
-each_right P (x ∷ xs) ys h = each_right P xs ys h.1
+-- of all on top and of all below
+each_on_top : (P : PointState → Type 0) (xs ys : List PointState) → Each P (on_top xs ys) → Each P xs × Each P ys
+each_on_top P [] ys h = (tt, h)
+each_on_top P (x ∷ xs) ys h = let k = each_on_top P xs (x ∷ ys) h in ((k.1.0, k.0), k.1.1)
 
 each_more : (P Q : PointState → Type 0) → ((x : PointState) → P x → Q x) → (xs : List PointState) → Each P xs → Each Q xs
 each_more P Q f [] h = tt
@@ -24,7 +21,7 @@ known_more (k ∷ news) kept x e = or_true _ (is_known (news ++ kept) x) (known_
     or_true true b e = refl
     or_true false b e = e
 
-module _ (step : PointState → FlowStep) (keeps : PointState → Bool) (kept : List PointState) where
+module _ (step : PointState → FlowStep) (keeps : PointState → Bool) (room left : ℕ) (kept : List PointState) where
   more_steps : (n : ℕ) (x : PointState) → Leads step kept n x → Leads step kept (suc n) x
   more_steps zero x h = inl h
   more_steps (suc n) x (inl h) = inl h
@@ -40,57 +37,72 @@ module _ (step : PointState → FlowStep) (keeps : PointState → Bool) (kept : 
     lead : Each (Leads step kept n) to_come
     go_on : Each (GoesOn step kept n) news
 
-  shows : (n : ℕ) (to_come before : List PointState) → explore step keeps n to_come before ≡ Complete kept → Shows n to_come before
-  shows zero to_come before e = absurd cc
-  shows (suc n) [] before e = let f : before ≡ kept = cc in record { news = []; are = f; lead = tt; go_on = tt }
-  shows (suc n) (x ∷ to_come) before e = by (is_known before x) refl e (λ b f. shows n to_come b f) (λ b f. shows n ((step x).gives ++ to_come) b f)
-    where
-      s : FlowStep
-      s = step x
+  abbrev Goal : ℕ → List PointState → List PointState → Type 0
+  Goal n to_come before = explore step keeps room to_come before n ≡ Complete left kept → Shows n to_come before
 
-      later : (b : List PointState) → Shows n to_come b → is_known before x ≡ true → b ≡ before → Shows (suc n) (x ∷ to_come) before
-      later b h k e =
-          record {
-            news = h.news;
-            are = ap (λ b. h.news ++ b) (sym e) ∙ h.are;
-            lead = (inl (subst (λ l. is_known l x ≡ true) (ap (λ b. h.news ++ b) (sym e) ∙ h.are) (known_more h.news before x k)), each_more (Leads step kept n) (Leads step kept (suc n)) (λ y k. more_steps n y k) to_come h.lead);
-            go_on = each_more (GoesOn step kept n) (GoesOn step kept (suc n)) (λ y k. goes_more n y k) h.news h.go_on;
-          }
+  none_left : (n : ℕ) (before : List PointState) → Complete n before ≡ Complete left kept → Shows n [] before
+  none_left n before e = let f : before ≡ kept = cc in record { news = []; are = f; lead = tt; go_on = tt }
 
-      on : (c : Bool) → (step x).violations ≡ [] → Shows n ((step x).gives ++ to_come) (cond c (x ∷ before) before) → Shows (suc n) (x ∷ to_come) before
-      on c none h =
-          let here : GoesOn step kept n x = (none, each_left (Leads step kept n) (step x).gives to_come h.lead) in
-          let rest = each_more (Leads step kept n) (Leads step kept (suc n)) (λ y k. more_steps n y k) to_come (each_right (Leads step kept n) (step x).gives to_come h.lead) in
-          let more = each_more (GoesOn step kept n) (GoesOn step kept (suc n)) (λ y k. goes_more n y k) h.news h.go_on in
-          which c h.news h.are more here rest
-        where
-          snoc : (ns : List PointState) → Each (GoesOn step kept (suc n)) ns → GoesOn step kept (suc n) x → Each (GoesOn step kept (suc n)) (ns ++ x ∷ [])
-          snoc [] h k = (k, tt)
-          snoc (y ∷ ns) h k = (h.0, snoc ns h.1 k)
+  all_more : (n : ℕ) (xs : List PointState) → Each (Leads step kept n) xs → Each (Leads step kept (suc n)) xs
+  all_more n xs h = each_more (Leads step kept n) (Leads step kept (suc n)) (λ y k. more_steps n y k) xs h
 
-          moved : (ns : List PointState) → (ns ++ x ∷ []) ++ before ≡ ns ++ x ∷ before
-          moved [] = refl
-          moved (y ∷ ns) = ap (λ l. y ∷ l) (moved ns)
+  all_go_more : (n : ℕ) (xs : List PointState) → Each (GoesOn step kept n) xs → Each (GoesOn step kept (suc n)) xs
+  all_go_more n xs h = each_more (GoesOn step kept n) (GoesOn step kept (suc n)) (λ y k. goes_more n y k) xs h
 
-          which : (c : Bool) (ns : List PointState) → ns ++ cond c (x ∷ before) before ≡ kept → Each (GoesOn step kept (suc n)) ns → GoesOn step kept n x → Each (Leads step kept (suc n)) to_come → Shows (suc n) (x ∷ to_come) before
-          which true ns are more here rest = record { news = ns ++ x ∷ []; are = moved ns ∙ are; lead = (inr here, rest); go_on = snoc ns more (goes_more n x here) }
-          which false ns are more here rest = record { news = ns; are = are; lead = (inr here, rest); go_on = more }
+  -- a state is taken, where the rest shows
+  module _ (n : ℕ) (x : PointState) (to_come before : List PointState) (rest : (xs ks : List PointState) → Goal n xs ks) where
+    abbrev Here : Type 0
+    Here = Shows (suc n) (x ∷ to_come) before
 
-      fine : (rs : List RuleViolation) → (step x).violations ≡ rs →
-          (elim rs [ [] ↦ explore step keeps n ((step x).gives ++ to_come) (cond (keeps x) (x ∷ before) before) | r ∷ rs ↦ Violated r ]) ≡ Complete kept →
-          ((b : List PointState) → explore step keeps n ((step x).gives ++ to_come) b ≡ Complete kept → Shows n ((step x).gives ++ to_come) b) → Shows (suc n) (x ∷ to_come) before
-      fine [] e f go = on (keeps x) e (go (cond (keeps x) (x ∷ before) before) f)
-      fine (r ∷ rs) e f go = absurd cc
+    abbrev gives : List PointState
+    gives = (step x).gives
 
-      by : (c : Bool) → is_known before x ≡ c →
-          cond c (explore step keeps n to_come before) (elim (step x).violations [ [] ↦ explore step keeps n ((step x).gives ++ to_come) (cond (keeps x) (x ∷ before) before) | r ∷ rs ↦ Violated r ]) ≡ Complete kept →
-          ((b : List PointState) → explore step keeps n to_come b ≡ Complete kept → Shows n to_come b) →
-          ((b : List PointState) → explore step keeps n ((step x).gives ++ to_come) b ≡ Complete kept → Shows n ((step x).gives ++ to_come) b) →
-          Shows (suc n) (x ∷ to_come) before
-      by true k f known go = later before (known before f) k refl
-      by false k f known go = fine (step x).violations refl f go
+    abbrev next : Bool → List PointState
+    next c = cond c (x ∷ before) before
 
-  pub unrolls : (start : PointState) (n : ℕ) → explore step keeps n (start ∷ []) [] ≡ Complete kept → IsUnrolled step start kept n
+    known : is_known before x ≡ true → Shows n to_come before → Here
+    known k h =
+        let now = subst (λ l. is_known l x ≡ true) h.are (known_more h.news before x k) in
+        record { news = h.news; are = h.are; lead = (inl now, all_more n to_come h.lead); go_on = all_go_more n h.news h.go_on }
+
+    snoc : (ns : List PointState) → Each (GoesOn step kept (suc n)) ns → GoesOn step kept (suc n) x → Each (GoesOn step kept (suc n)) (ns ++ x ∷ [])
+    snoc [] h k = (k, tt)
+    snoc (y ∷ ns) h k = (h.0, snoc ns h.1 k)
+
+    moved : (ns : List PointState) → (ns ++ x ∷ []) ++ before ≡ ns ++ x ∷ before
+    moved [] = refl
+    moved (y ∷ ns) = ap (λ l. y ∷ l) (moved ns)
+
+    on : (c : Bool) → (step x).violations ≡ [] → Shows n (on_top gives to_come) (next c) → Here
+    on c none h =
+        let leads = each_on_top (Leads step kept n) gives to_come h.lead in
+        which c h.news h.are (all_go_more n h.news h.go_on) (none, leads.0) (all_more n to_come leads.1)
+      where
+        which : (c : Bool) (ns : List PointState) → ns ++ next c ≡ kept → Each (GoesOn step kept (suc n)) ns → GoesOn step kept n x → Each (Leads step kept (suc n)) to_come → Here
+        which true ns are more here rest = record { news = ns ++ x ∷ []; are = moved ns ∙ are; lead = (inr here, rest); go_on = snoc ns more (goes_more n x here) }
+        which false ns are more here rest = record { news = ns; are = are; lead = (inr here, rest); go_on = more }
+
+    abbrev Ends : Taken → Type 0
+    Ends t = explore_on (λ xs ks. explore step keeps room xs ks n) n x.point.addr t ≡ Complete left kept
+
+    full : (c b : Bool) → (step x).violations ≡ [] → Ends (cond b Overflows (Goes (on_top gives to_come) (next c))) → Here
+    full c true none e = absurd cc
+    full c false none e = on c none (rest (on_top gives to_come) (next c) e)
+
+    right : (vs : List RuleViolation) → (step x).violations ≡ vs → Ends (unless_wrong vs (within room (on_top gives to_come) (next (keeps x)))) → Here
+    right [] none e = full (keeps x) _ none e
+    right (v ∷ vs) some e = absurd cc
+
+    by : (c : Bool) → is_known before x ≡ c → Ends (cond c (Goes to_come before) (unless_wrong (step x).violations (within room (on_top gives to_come) (next (keeps x))))) → Here
+    by true k e = known k (rest to_come before e)
+    by false k e = right (step x).violations refl e
+
+  shows : (n : ℕ) (to_come before : List PointState) → Goal n to_come before
+  shows n [] before e = none_left n before e
+  shows zero (x ∷ to_come) before e = absurd cc
+  shows (suc n) (x ∷ to_come) before e = by n x to_come before (λ xs ks f. shows n xs ks f) (is_known before x) refl e
+
+  pub unrolls : (start : PointState) (n : ℕ) → explore step keeps room (start ∷ []) [] n ≡ Complete left kept → IsUnrolled step start kept n
   unrolls start n e =
       let h = shows n (start ∷ []) [] e in
       record { begins = h.lead.0; goes_on = subst (Each (GoesOn step kept n)) (no_more h.news ∙ h.are) h.go_on }

@@ -8,8 +8,8 @@ use Rattle.mod_layout.specs.declared.Section.{Section}
 use Rattle.flow_rule.specs.declared.Val.{Val}
 use Rattle.flow_rule.specs.declared.Val.TheVariants.{Known, Away, Public, Secret}
 use Rattle.flow_rule.proofs.Meaning.{Agrees}
-use Rattle.flow_rule.specs.Exploring.{says_less, say_less, is_known}
-use Rattle.flow_rule.specs.Unrolling.{Each, Leads, GoesOn, IsUnrolled}
+use Rattle.flow_laws.specs.Exploring.{says_less, say_less, is_known}
+use Rattle.flow_laws.specs.internal.Unrolling.{Each, Leads, GoesOn, IsUnrolled}
 use Rattle.flow_laws.proofs.Labelling.{Below, Under, Among, CoveredBy, Closed, same_under}
 
 each_of : (P : PointState → Type 0) (xs : List PointState) → Each P xs → (y : PointState) → Among y xs → P y

@@ -1,5 +1,5 @@
 -- What an accepted text is: even for every two data, or but for the answers.
-use Rattle.std.specs.Prelude.{◌≡◌, ◌<◌, ◌*◌, ◌/◌, ◌⊎◌, ℕ, Bool, List, [], ◌∷◌, length, slice_index, All}
+use Rattle.std.specs.Prelude.{◌≡◌, ◌<◌, ◌*◌, ◌⊎◌, ℕ, Bool, List, [], ◌∷◌, length, slice_index, All}
 use Rattle.sm_words.specs.Words.{word_at}
 use Rattle.mod_layout.specs.declared.Module.{Module}
 use Rattle.mod_layout.specs.Table.{size_of}
@@ -9,11 +9,9 @@ use Rattle.flow_rule.specs.Terms.{Terms}
 use Rattle.flow_rule.specs.declared.Verdict.TheVariants.{Yes}
 use Rattle.arm_balance.specs.declared.Arm.{Arm}
 use Rattle.flow_rule.specs.Does.{word_no}
-use Rattle.flow_rule.specs.Arms.{VerdictWith, VerdictUnder}
+use Rattle.flow_rule.specs.Arms.{VerdictWith, VerdictUnder, flow_under}
 use Rattle.flow_rule.specs.Iterations.{PointState}
-use Rattle.flow_rule.specs.Exploring.{Complete, explore, explored}
-use Rattle.flow_rule.specs.Verdict.{start_knowing}
-use Rattle.flow_rule.specs.Arms.{flow_under}
+use Rattle.flow_laws.specs.Exploring.{Explored, Complete, explore, explored, forks, most_states, first_state}
 use Rattle.flow_rule.specs.Values.{known_flags}
 use Rattle.flow_laws.specs.Releases.{Release, releasing, ToldApart}
 
@@ -59,18 +57,25 @@ Released = (terms : Terms) (m : Module) (text : List ℕ) (arms : List Arm) → 
 abbrev pub Kept : Type 0
 Kept = (terms : Terms) (m : Module) (text : List ℕ) (arms : List Arm) → IsSection m.text → IsSection m.ram → VerdictUnder terms m text arms Yes → KeptUnder terms m text
 
--- the same of a text whose exploration is complete, whatever states are kept
+-- the same of a text whose exploration is complete
 abbrev pub UnrolledReleased : Type 0
-UnrolledReleased = (terms : Terms) (m : Module) (text : List ℕ) (arms : List Arm) (keeps : PointState → Bool) (steps : ℕ) (kept : List PointState) → IsSection m.text → IsSection m.ram → explored terms m text arms keeps steps ≡ Complete kept → EvenUnder terms m text
+UnrolledReleased = (terms : Terms) (m : Module) (text : List ℕ) (arms : List Arm) (steps left : ℕ) (kept : List PointState) → IsSection m.text → IsSection m.ram →
+    explored terms m text arms steps ≡ Complete left kept → EvenUnder terms m text
 
 abbrev pub UnrolledKept : Type 0
-UnrolledKept = (terms : Terms) (m : Module) (text : List ℕ) (arms : List Arm) (keeps : PointState → Bool) (steps : ℕ) (kept : List PointState) → IsSection m.text → IsSection m.ram → explored terms m text arms keeps steps ≡ Complete kept → KeptUnder terms m text
+UnrolledKept = (terms : Terms) (m : Module) (text : List ℕ) (arms : List Arm) (steps left : ℕ) (kept : List PointState) → IsSection m.text → IsSection m.ram →
+    explored terms m text arms steps ≡ Complete left kept → KeptUnder terms m text
 
--- explored under releases: a call from two data that agree on the public words ends alike but for the answers and leaves two such data,
+-- a text explored under releases
+abbrev pub explored_under : List Release → Terms → Module → List ℕ → List Arm → ℕ → Explored
+explored_under ps terms m text arms steps =
+    explore (releasing ps (flow_under known_flags terms m text arms)) (forks m text) most_states (first_state terms m text ∷ []) [] steps
+
+-- where that is complete, a call from two data that agree on the public words ends alike but for the answers and leaves two such data,
 -- or a release tells the two apart
 abbrev pub Delimited : Type 0
-Delimited = (ps : List Release) (terms : Terms) (m : Module) (text : List ℕ) (arms : List Arm) (keeps : PointState → Bool) (steps : ℕ) (kept : List PointState) → IsSection m.text → IsSection m.ram →
-    explore (releasing ps (flow_under known_flags terms m text arms)) keeps steps (start_knowing (size_of m.ram / 2) terms m text ∷ []) [] ≡ Complete kept →
+Delimited = (ps : List Release) (terms : Terms) (m : Module) (text : List ℕ) (arms : List Arm) (steps left : ℕ) (kept : List PointState) → IsSection m.text → IsSection m.ram →
+    explored_under ps terms m text arms steps ≡ Complete left kept →
     (key d1 d2 : List ℕ) → IsData m d1 → IsData m d2 → AgreeOn m terms.public d1 d2 → (e : Entrance) → IsEntry m e → (n : ℕ) →
     let j = job_of key m text e.caller in
     alike_but terms.answers (λ c c' x y. IsData m x × IsData m y × AgreeOn m terms.public x y) (outcome j n (starts e d1)) (outcome j n (starts e d2)) ⊎ ToldApart ps j (starts e d1) (starts e d2) n

@@ -229,7 +229,6 @@ module _ (terms : Terms) (m : Module) (text : List ℕ) where
       Goes (met m.text text pc) pc top low (S (point_state pc r top)) (S (point_state pc q low))
 
   plain_alike : Alike (step_of blurred_flags terms m text)
-  unfolding step_of
   plain_alike join next pc r q top low even inn on o none g =
       insn_goes (met m.text text pc) join next pc r q top low on o none g
 
@@ -251,7 +250,6 @@ module _ (terms : Terms) (m : Module) (text : List ℕ) where
           ≡ Some next) e on in absurd cc
 
   stub_alike : m.text.start % 2 ≡ 0 → has_stub m text ≡ true → Alike (step_stub blurred_flags terms m text)
-  unfolding step_stub step_of
   stub_alike start stub join next pc r q top low even inn on o none g =
       by (word_number m pc == 17) (is_open (word_number m pc)) refl none g
     where

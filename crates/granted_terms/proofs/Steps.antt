@@ -247,7 +247,6 @@ module _ (now other : Terms) where
 
     of_follows : (step_of blurred_flags other m text (point_state pc r top)).violations ≡ [] →
         Follows now other (step_of blurred_flags other m text (point_state pc r top)) (step_of blurred_flags now m text (point_state pc r low))
-    unfolding step_of
     of_follows e = insn_follows (met m.text text pc) e
 
     -- ---- in a stub
@@ -292,7 +291,6 @@ module _ (now other : Terms) where
 
     stub_follows : (step_stub blurred_flags other m text (point_state pc r top)).violations ≡ [] →
         Follows now other (step_stub blurred_flags other m text (point_state pc r top)) (step_stub blurred_flags now m text (point_state pc r low))
-    unfolding step_stub
     stub_follows e = by (word_number m pc == call_word) e
       where
         here : Bool

@@ -108,7 +108,7 @@ unfolding memory_of bytes_of
 balanced_text = refl
 
 blind_accepted : VerdictWith (row_module 0x0306) (bytes_of blind) [] Yes
-unfolding bytes_of step_arms met step_of step_stub has_stub plan_val does_val insn_of
+unfolding bytes_of step_arms met has_stub plan_val does_val insn_of
 blind_accepted =
     let step : PointState → FlowStep = flow_under blurred_flags no_terms (row_module 0x0306) (bytes_of blind) [] in
     let start : PointState = start_under no_terms (row_module 0x0306) (bytes_of blind) in
@@ -121,15 +121,15 @@ abbrev balanced_points : ℕ → List PointState
 balanced_points n = iterations (flow_under blurred_flags no_terms (row_module 0x0322) (bytes_of balanced) meet) (start_under no_terms (row_module 0x0322) (bytes_of balanced)) n
 
 balanced_stays : balanced_points 6 ≡ balanced_points 5
-unfolding bytes_of meet step_arms met step_of step_stub has_stub plan_val does_val insn_of cycles_of
+unfolding bytes_of meet step_arms met has_stub plan_val does_val insn_of cycles_of
 balanced_stays = refl
 
 balanced_violations : all_violations (flow_under blurred_flags no_terms (row_module 0x0322) (bytes_of balanced) meet) (balanced_points 5) ≡ []
-unfolding bytes_of meet step_arms met step_of step_stub has_stub plan_val does_val insn_of cycles_of
+unfolding bytes_of meet step_arms met has_stub plan_val does_val insn_of cycles_of
 balanced_violations = refl
 
 balanced_few : length (balanced_points 5) ≡ 5
-unfolding bytes_of meet step_arms met step_of step_stub has_stub plan_val does_val insn_of cycles_of
+unfolding bytes_of meet step_arms met has_stub plan_val does_val insn_of cycles_of
 balanced_few = refl
 
 pub balanced_accepted : VerdictWith (row_module 0x0322) (bytes_of balanced) meet Yes

@@ -1,4 +1,3 @@
-use Rattle.flow_laws.proofs.Told.{always_or}
 use Rattle.std.proofs.Common.{refl}
 use Rattle.insn_decode.specs.Code.{insn_of}
 use Rattle.arm_balance.specs.Met.{met}
@@ -9,5 +8,5 @@ use Rattle.flow_rule.specs.Arms.{step_arms}
 use Rattle.flow_laws.proofs.counted_loop.Goals as goal
 
 pub returns : goal.returns
-unfolding met step_of step_stub has_stub plan_val does_val insn_of step_arms
+unfolding met has_stub plan_val does_val insn_of step_arms
 returns c = record { complete = refl }

@@ -1,14 +1,12 @@
--- Unrolling: a text walked from state to state, without joining them.
-use Rattle.std.specs.Prelude.{◌≡◌, ◌⊎◌, ℕ, zero, suc, ◌/◌, List, [], ◌∷◌, true}
+-- What an exploration shows that is complete.
+use Rattle.std.specs.Prelude.{◌≡◌, ◌⊎◌, ℕ, zero, suc, List, [], ◌∷◌, true}
 use Rattle.mod_layout.specs.declared.Module.{Module}
-use Rattle.mod_layout.specs.Table.{size_of}
 use Rattle.arm_balance.specs.declared.Arm.{Arm}
 use Rattle.flow_rule.specs.Terms.{Terms}
 use Rattle.flow_rule.specs.Iterations.{PointState, FlowStep}
-use Rattle.flow_rule.specs.Exploring.{is_known}
-use Rattle.flow_rule.specs.Verdict.{start_knowing}
 use Rattle.flow_rule.specs.Arms.{flow_under}
 use Rattle.flow_rule.specs.Values.{known_flags}
+use Rattle.flow_laws.specs.Exploring.{is_known, first_state}
 
 abbrev pub Each : (PointState → Type 0) → List PointState → Type 0
 Each P [] = Unit {0}
@@ -31,4 +29,4 @@ pub record IsUnrolled (step : PointState → FlowStep) (start : PointState) (kep
 -- a text is unrolled under terms, with these certificates, where states know of all data words
 abbrev pub UnrolledUnder : Terms → Module → List ℕ → List Arm → Type 0
 UnrolledUnder terms m text arms =
-    (kept : List PointState) × (steps : ℕ) × IsUnrolled (flow_under known_flags terms m text arms) (start_knowing (size_of m.ram / 2) terms m text) kept steps
+    (kept : List PointState) × (steps : ℕ) × IsUnrolled (flow_under known_flags terms m text arms) (first_state terms m text) kept steps
