@@ -1,5 +1,6 @@
 -- The least of the violations.
-use Rattle.std.proofs.Common.{◌==◌, ◌≡◌, ℕ, zero, suc, ◌+◌, ◌-◌, ◌<◌, ◌≤◌, List, [], ◌∷◌, ◌++◌, length, refl, sym, ap, ◌∙◌, arith, true, false, cond, Option, append_assoc}
+use Rattle.cpu_step.specs.Effect.{jumps}
+use Rattle.std.proofs.Common.{◌==◌, ◌≡◌, ℕ, zero, suc, ◌+◌, ◌-◌, ◌<◌, ◌≤◌, List, [], ◌∷◌, ◌++◌, length, refl, sym, ap, ◌∙◌, arith, Bool, true, false, cond, Option, None, append_assoc}
 use Rattle.std.specs.Prelude.{ℤ, Some}
 use Rattle.sm_words.specs.Words.{nth}
 use Rattle.insn_decode.specs.declared.insn.Condition.{Condition}
@@ -13,15 +14,16 @@ use Rattle.flow_rule.specs.declared.Reach.{Reach}
 use Rattle.flow_rule.specs.declared.Reason.TheVariants.{SecretAtExit, DataAtExit, UnknownTarget, SecretBranch}
 use Rattle.flow_rule.specs.declared.Val.TheVariants.{Secret}
 use Rattle.flow_rule.specs.Iterations.{RuleViolation, FlowStep, PointState}
-use Rattle.flow_rule.specs.Values.{is_secret, val, blurred_flags}
+use Rattle.flow_rule.specs.Values.{is_secret, val, FlagDomain}
 use Rattle.flow_rule.specs.Does.{word_no, past_val, does_val, writes_val}
 use Rattle.flow_rule.specs.Violations.{exit_violations, word_violations, reach_violations, reach_violations_by, violation, violation_if}
 use Rattle.flow_rule.specs.Going.{goes, also, both}
-use Rattle.flow_rule.specs.Steps.{step_jump, step_insn, step_of}
+use Rattle.flow_rule.specs.Steps.{turns_by, step_jump, step_insn, step_of}
 use Rattle.flow_rule.specs.Stub.{shut_violations, shut_if, is_shut, is_open, word_number, step_stub, step_entries, to_entries, text_word}
 use Rattle.flow_check.specs.declared.violation.Violation.{Violation}
 use Rattle.flow_check.specs.internal.Violations.{lesser, noted, shut_at, entry_addrs}
 use Rattle.flow_check.specs.internal.Points.{addrs_of}
+use Rattle.flow_check.specs.internal.Steps.{condition_of}
 
 pub noted_append : (xs ys : List RuleViolation) (o : Option Violation) → noted (xs ++ ys) o ≡ noted ys (noted xs o)
 noted_append [] ys o = refl
@@ -75,24 +77,35 @@ pub both_addrs : (xs ys : List PointState) (t0 t1 t2 : List ℕ) → t1 ≡ t0 +
 both_addrs xs ys t0 t1 t2 e1 e2 =
     e2 ∙ ap (λ l. l ++ addrs_of ys) e1 ∙ append_assoc t0 (addrs_of xs) (addrs_of ys) ∙ ap (λ l. t0 ++ l) (sym (addrs_append xs ys))
 
-abbrev taken_to : Terms → Module → Insn → PointState → FlowStep
-taken_to terms m insn x = goes terms m x.point.addr x.point.call_string (does_val blurred_flags insn x.point.addr x.state.core []).core x.state.words
+abbrev taken_to : FlagDomain → Terms → Module → Insn → PointState → FlowStep
+taken_to flags terms m insn x = goes terms m x.point.addr x.point.call_string (does_val flags insn x.point.addr x.state.core []).core x.state.words
 
-abbrev either_way : Terms → Module → Insn → PointState → FlowStep
-either_way terms m insn x =
-    also (violation_if (is_secret (val x.state.core 2)) x.point.addr SecretBranch 0)
-    (both (taken_to terms m insn x) (goes terms m x.point.addr x.point.call_string (past_val insn x.point.addr x.state.core) x.state.words))
+abbrev on_to : Terms → Module → Insn → PointState → FlowStep
+on_to terms m insn x = goes terms m x.point.addr x.point.call_string (past_val insn x.point.addr x.state.core) x.state.words
 
-pub jump_always : (terms : Terms) (m : Module) (text : List ℕ) (insn : Insn) (cn : Condition) (x : PointState) → is_always cn ≡ true →
-    step_jump blurred_flags terms m text insn cn x ≡ taken_to terms m insn x
-jump_always terms m text insn cn x e = ap (λ b. cond b (taken_to terms m insn x) (either_way terms m insn x)) e
+-- by the flags that the jump finds
+abbrev turned : FlagDomain → Terms → Module → Insn → Condition → PointState → Option ℕ → FlowStep
+turned flags terms m insn cn x known = turns_by known (is_secret (val x.state.core 2)) x.point.addr cn (taken_to flags terms m insn x) (on_to terms m insn x)
 
-pub jump_other : (terms : Terms) (m : Module) (text : List ℕ) (insn : Insn) (cn : Condition) (x : PointState) → is_always cn ≡ false →
-    step_jump blurred_flags terms m text insn cn x ≡ either_way terms m insn x
-jump_other terms m text insn cn x e = ap (λ b. cond b (taken_to terms m insn x) (either_way terms m insn x)) e
+module _ (flags : FlagDomain) (terms : Terms) (m : Module) (text : List ℕ) (insn : Insn) (cn : Condition) (x : PointState) where
+  pub jump_always : is_always cn ≡ true → step_jump flags terms m text insn cn x ≡ taken_to flags terms m insn x
+  jump_always e = ap (λ b. cond b (taken_to flags terms m insn x) (turned flags terms m insn cn x (flags.known (val x.state.core 2)))) e
 
-pub jump_same : (terms : Terms) (m : Module) (text : List ℕ) (insn : Insn) (cn : Condition) (off : ℤ) (x : PointState) → insn ≡ Jump cn off → step_jump blurred_flags terms m text insn cn x ≡ step_insn blurred_flags terms m text (Some insn) x
-jump_same terms m text insn cn off x e = ap (λ i. step_jump blurred_flags terms m text i cn x) e ∙ sym (ap (λ i. step_insn blurred_flags terms m text (Some i) x) e)
+  jump_other : (k : Option ℕ) → is_always cn ≡ false → flags.known (val x.state.core 2) ≡ k → step_jump flags terms m text insn cn x ≡ turned flags terms m insn cn x k
+  jump_other k e f =
+      ap (λ b. cond b (taken_to flags terms m insn x) (turned flags terms m insn cn x (flags.known (val x.state.core 2)))) e ∙ ap (turned flags terms m insn cn x) f
+
+  pub jump_known : (sr : ℕ) (b : Bool) → is_always cn ≡ false → flags.known (val x.state.core 2) ≡ Some sr → jumps cn sr ≡ b →
+      step_jump flags terms m text insn cn x ≡ cond b (taken_to flags terms m insn x) (on_to terms m insn x)
+  jump_known sr b e f g = jump_other (Some sr) e f ∙ ap (λ b. cond b (taken_to flags terms m insn x) (on_to terms m insn x)) g
+
+  pub jump_open : is_always cn ≡ false → flags.known (val x.state.core 2) ≡ None →
+      step_jump flags terms m text insn cn x ≡ also (violation_if (is_secret (val x.state.core 2)) x.point.addr SecretBranch 0) (both (taken_to flags terms m insn x) (on_to terms m insn x))
+  jump_open e f = jump_other None e f
+
+pub jump_same : (flags : FlagDomain) (terms : Terms) (m : Module) (text : List ℕ) (insn : Insn) (cn : Condition) (off : ℤ) (x : PointState) → insn ≡ Jump cn off →
+    step_jump flags terms m text insn (condition_of insn) x ≡ step_insn flags terms m text (Some insn) x
+jump_same flags terms m text insn cn off x e = ap (λ i. step_jump flags terms m text i (condition_of i) x) e ∙ sym (ap (λ i. step_insn flags terms m text (Some i) x) e)
 
 -- ---- steps into the closed words of a stub
 shut_same : (m : Module) (pc : ℕ) (gs : List PointState) → shut_violations m pc gs ≡ shut_at m pc (addrs_of gs)
@@ -107,15 +120,15 @@ pub shut_after : (m : Module) (pc : ℕ) (s : FlowStep) (ts : List ℕ) (o0 o1 o
 shut_after m pc s ts o0 o1 o2 e1 et e2 =
     e2 ∙ ap (λ t. noted (shut_at m pc t) o1) et ∙ ap (λ rs. noted rs o1) (sym (shut_same m pc s.gives)) ∙ ap (noted (shut_violations m pc s.gives)) e1 ∙ sym (noted_append s.violations (shut_violations m pc s.gives) o0)
 
-pub stub_open : (terms : Terms) (m : Module) (text : List ℕ) (x : PointState) → (word_number m x.point.addr == 17) ≡ false → is_open (word_number m x.point.addr) ≡ true → step_of blurred_flags terms m text x ≡ step_stub blurred_flags terms m text x
-stub_open terms m text x e f =
-    sym (ap (λ b. cond b (step_entries m text x) (shut_if (is_open (word_number m x.point.addr)) m x.point.addr (step_of blurred_flags terms m text x))) e
-    ∙ ap (λ b. shut_if b m x.point.addr (step_of blurred_flags terms m text x)) f)
+pub stub_open : (flags : FlagDomain) (terms : Terms) (m : Module) (text : List ℕ) (x : PointState) → (word_number m x.point.addr == 17) ≡ false → is_open (word_number m x.point.addr) ≡ true → step_of flags terms m text x ≡ step_stub flags terms m text x
+stub_open flags terms m text x e f =
+    sym (ap (λ b. cond b (step_entries m text x) (shut_if (is_open (word_number m x.point.addr)) m x.point.addr (step_of flags terms m text x))) e
+    ∙ ap (λ b. shut_if b m x.point.addr (step_of flags terms m text x)) f)
 
-pub stub_shut : (terms : Terms) (m : Module) (text : List ℕ) (x : PointState) → (word_number m x.point.addr == 17) ≡ false → is_open (word_number m x.point.addr) ≡ false → shut_if false m x.point.addr (step_of blurred_flags terms m text x) ≡ step_stub blurred_flags terms m text x
-stub_shut terms m text x e f =
-    sym (ap (λ b. cond b (step_entries m text x) (shut_if (is_open (word_number m x.point.addr)) m x.point.addr (step_of blurred_flags terms m text x))) e
-    ∙ ap (λ b. shut_if b m x.point.addr (step_of blurred_flags terms m text x)) f)
+pub stub_shut : (flags : FlagDomain) (terms : Terms) (m : Module) (text : List ℕ) (x : PointState) → (word_number m x.point.addr == 17) ≡ false → is_open (word_number m x.point.addr) ≡ false → shut_if false m x.point.addr (step_of flags terms m text x) ≡ step_stub flags terms m text x
+stub_shut flags terms m text x e f =
+    sym (ap (λ b. cond b (step_entries m text x) (shut_if (is_open (word_number m x.point.addr)) m x.point.addr (step_of flags terms m text x))) e
+    ∙ ap (λ b. shut_if b m x.point.addr (step_of flags terms m text x)) f)
 
 pub entries_least : (m : Module) (pc : ℕ) (push : Reach) (ts : List RuleViolation) (o0 o1 o2 : Option Violation) → noted (reach_violations m pc (push ∷ [])) o0 ≡ o1 → o2 ≡ noted ts o1 → o2 ≡ noted (reach_violations m pc (push ∷ []) ++ ts) o0
 entries_least m pc push ts o0 o1 o2 e1 e2 = e2 ∙ ap (noted ts) (sym e1) ∙ sym (noted_append (reach_violations m pc (push ∷ [])) ts o0)

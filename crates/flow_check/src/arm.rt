@@ -8,7 +8,7 @@ ghost use Rattle.flow_check.specs.internal.Programs.{arm_walk};
 use crate::accesses::reaches;
 use crate::clobbers::{clobber_registers, clobber_words};
 use crate::point::Point;
-use crate::program::Program;
+use crate::program::{Flags, Program};
 use crate::relevant::Relevance;
 use crate::step::Targets;
 use crate::stub::step_point;
@@ -50,6 +50,7 @@ fn walk_on(
     tally: &mut Tally,
     relevance: &mut Relevance,
 ) -> Result<(), u16>
+    requires blurred { program.now.flags ≡ Flags.Blurred }
     requires before { point.old.addr ≢ join }
     requires short { tally.old.cycles < 4294967000 }
     ensures on { IfOk result (λ _. (steps : ℕ) →
@@ -92,6 +93,7 @@ pub fn walk(
     state: &AbstractState,
     relevance: &mut Relevance,
 ) -> Result<Tally, u16>
+    requires blurred { program.now.flags ≡ Flags.Blurred }
     ensures { result ≡ tally_told (arm_walk program.now join (suc join) (point_at from.now)) (untold state.now) }
 {
     relevance.begin();

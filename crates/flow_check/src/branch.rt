@@ -4,7 +4,7 @@ ghost use Rattle.std.specs.Prelude.{◌≡◌, ◌==◌, [], true, find};
 ghost use Rattle.std.specs.Option.{option_copied};
 ghost use Rattle.sm_words.specs.Words.{kept, add16};
 ghost use Rattle.arm_balance.specs.Met.{met};
-ghost use Rattle.flow_rule.specs.Values.{val};
+ghost use Rattle.flow_rule.specs.Values.{val, blurred_flags};
 ghost use Rattle.flow_rule.specs.Does.{past_val, does_val};
 ghost use Rattle.flow_rule.specs.Arms.{arm_start};
 ghost use Rattle.flow_check.specs.internal.Violations.{noted};
@@ -17,7 +17,7 @@ use crate::accesses::step_past;
 use crate::arm::{Tally, walk};
 use crate::domain::{get, is_secret};
 use crate::point::Point;
-use crate::program::Program;
+use crate::program::{Flags, Program};
 use crate::relevant::Relevance;
 use crate::transfer::does;
 use crate::violation::{Violation, note, note_if};
@@ -118,10 +118,10 @@ fn first_arm(insn: &Insn, from: &Point) -> Point
 /// Where the arm begins that the jump takes.
 fn second_arm(insn: &Insn, target: u16, from: &Point) -> Point
     ensures { point_at result ≡ arm_start insn.now target (point_at from.now)
-        (does_val insn.now from.now.addr from.now.state.core []).core }
+        (does_val blurred_flags insn.now from.now.addr from.now.state.core []).core }
 {
     let mut point = *from;
-    let _ = does(insn, from.addr, &mut point.state.core, &[]);
+    let _ = does(Flags::Blurred, insn, from.addr, &mut point.state.core, &[]);
     point.addr = even(target);
     point
 }
@@ -163,6 +163,7 @@ pub fn walk_arms(
     told: &mut AbstractState,
     relevance: &mut Relevance,
 )
+    requires blurred { program.now.flags ≡ Flags.Blurred }
     ensures least { least.new ≡ noted (flow_at program.now site.now (point_at from.now)).violations least.old }
     ensures told { told.new ≡ clobbered program.now site.now (point_at from.now) told.old }
 {

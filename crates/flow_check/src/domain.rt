@@ -1,10 +1,11 @@
 //! The abstract domain: what is known of a word in both runs, of the registers and of the data, with its join.
 
 ghost use Rattle.std.specs.Prelude.{◌≡◌, length, ◌≤◌, ◌<◌, ◌+◌, ◌*◌, ◌++◌, suc, take, drop, true, false};
-ghost use Rattle.std.specs.Prelude.{Some, None, ◌%◌, ◌∷◌, []};
+ghost use Rattle.std.specs.Prelude.{Some, None, ◌%◌, ◌∷◌, [], slice_set};
 ghost use Rattle.sm_words.specs.Words.{add16, bit};
 ghost use Rattle.flow_rule.specs.Values.{is_secret, join, over_one, blurred, narrow, seen, val};
-ghost use Rattle.flow_rule.specs.Values.{kept_val, put_val, join_each};
+ghost use Rattle.flow_rule.specs.Values.{kept_val, put_val, join_each, flags_in};
+ghost use Rattle.flow_check.specs.internal.Programs.{domain_of};
 ghost use Rattle.flow_rule.specs.Does.{half};
 ghost use Rattle.flow_check.specs.internal.Carries.{IsCarry};
 ghost use Rattle.flow_rule.specs.declared.AbstractState.{AbstractState};
@@ -13,8 +14,9 @@ ghost use Rattle.flow_check.specs.internal.Weights.{weight_all, weight_state};
 ghost use Rattle.flow_check.specs.internal.Summaries.{blank_state, laid, overlay};
 ghost use Rattle.flow_rule.specs.Absorbs.{Absorbs};
 
+use crate::program::Flags;
 use flow_rule::{AbstractState, Val};
-use sm_words::Width;
+use sm_words::{Width, status};
 
 /// Whether it is Secret.
 pub fn is_secret(value: Val) -> bool
@@ -108,8 +110,42 @@ pub fn carry(flags: Val) -> Val
 /// What is known of each register, by its number: PC's value is the program point's address, SR's is the flags'.
 pub type Core = [Val; 16];
 
-/// What is known of each word of the data.
+/// What is known of each word of the data, as far as a labelling knows of them.
 pub type Words = [Val; 256];
+
+/// The four flags of a status word.
+fn flags_in(sr: u16) -> u16
+    ensures { result ≡ flags_in sr }
+{
+    sr % status::GIE + status::OVERFLOW * (sr / status::OVERFLOW % 2)
+}
+
+/// What SR keeps of a value.
+pub fn held(flags: Flags, value: Val) -> Val
+    ensures { result ≡ (domain_of flags).held value }
+{
+    match (flags, value) {
+        (Flags::Followed, Val::Known(sr)) => Val::Known(flags_in(sr)),
+        _ => blurred(value),
+    }
+}
+
+/// The flags once all of them are 0.
+pub fn cleared(flags: Flags) -> Val
+    ensures { result ≡ (domain_of flags).cleared }
+{
+    match flags {
+        Flags::Blurred => Val::Public,
+        Flags::Followed => Val::Known(0),
+    }
+}
+
+/// Writes SR, which keeps the flags alone.
+pub fn put_flags(flags: Flags, core: &mut Core, value: Val)
+    ensures { core.new ≡ slice_set core.old 2 ((domain_of flags).held value) }
+{
+    core[2] = held(flags, value);
+}
 
 /// What a register keeps of a value.
 fn kept(n: u8, value: Val) -> Val

@@ -8,11 +8,11 @@ ghost use Rattle.flow_rule.specs.Going.{closes, exit_step};
 ghost use Rattle.flow_check.specs.internal.Violations.{noted};
 ghost use Rattle.flow_check.specs.internal.Terms.{terms_in};
 
-use crate::domain::{Core, Words, get, is_secret};
+use crate::domain::{Core, get, is_secret};
 use crate::memory::{known, word_number};
 use crate::program::Program;
 use crate::violation::{Violation, note, note_if};
-use flow_rule::{AbstractState, Reason, Val};
+use flow_rule::{Reason, Val};
 use mod_layout::Module;
 
 /// What is wrong with these registers: the lowest that is Secret.
@@ -56,7 +56,7 @@ fn bare(core: &Core, answers: &[u8]) -> Core
 
 /// What is wrong with a public word, before others.
 #[tactic(auto, using(crate::proofs::Violations::word_more))]
-fn check_word(module: &Module, pc: u16, words: &Words, addr: u16, least: &mut Option<Violation>)
+fn check_word(module: &Module, pc: u16, words: &[Val], addr: u16, least: &mut Option<Violation>)
     ensures { (rest : List ℕ) → noted (word_violations module.now pc words.now (addr ∷ rest)) least.old
         ≡ noted (word_violations module.now pc words.now rest) least.new }
 {
@@ -68,7 +68,7 @@ fn check_word(module: &Module, pc: u16, words: &Words, addr: u16, least: &mut Op
 fn check_words(
     module: &Module,
     pc: u16,
-    words: &Words,
+    words: &[Val],
     public: &[u16],
     least: &mut Option<Violation>,
 )
@@ -89,11 +89,17 @@ pub fn close(program: &Program<'_>, pc: u16, core: &Core, least: &mut Option<Vio
 
 /// Leaves the module with this state.
 #[tactic(auto, using(crate::proofs::Violations::noted_append))]
-pub fn leave(program: &Program<'_>, pc: u16, state: &AbstractState, least: &mut Option<Violation>)
+pub fn leave(
+    program: &Program<'_>,
+    pc: u16,
+    core: &Core,
+    words: &[Val],
+    least: &mut Option<Violation>,
+)
     ensures { least.new ≡ noted
-        (exit_step (terms_in program.now) program.now.module.now pc state.now.core state.now.words).violations
+        (exit_step (terms_in program.now) program.now.module.now pc core.now words.now).violations
         least.old }
 {
-    check_words(program.module, pc, &state.words, program.public, least);
-    close(program, pc, &state.core, least);
+    check_words(program.module, pc, words, program.public, least);
+    close(program, pc, core, least);
 }

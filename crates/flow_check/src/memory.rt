@@ -4,7 +4,7 @@ ghost use Rattle.std.specs.Prelude.{◌≡◌, ◌<◌, ◌&&◌, slice_set};
 ghost use Rattle.sm_words.specs.Words.{nth};
 ghost use Rattle.flow_rule.specs.Does.{may_reach, word_no, read_at, read_val, write_at, write_val};
 
-use crate::domain::{Words, blurred_both, half, narrow};
+use crate::domain::{blurred_both, half, narrow};
 use arm_balance::{byte, word};
 use flow_rule::{Reach, Val};
 use mod_layout::Module;
@@ -33,7 +33,7 @@ pub fn word_number(module: &Module, addr: u16) -> usize
 }
 
 /// What is known of a word of the data.
-pub fn known(words: &Words, n: usize) -> Val
+pub fn known(words: &[Val], n: usize) -> Val
     ensures { result ≡ nth n words.now Val.Secret }
 {
     match words.get(n) {
@@ -43,7 +43,7 @@ pub fn known(words: &Words, n: usize) -> Val
 }
 
 /// What a read at an address gives.
-fn read_at(module: &Module, text: &[u8], words: &Words, width: Width, addr: u16) -> Val
+fn read_at(module: &Module, text: &[u8], words: &[Val], width: Width, addr: u16) -> Val
     ensures { result ≡ read_at module.now text.now words.now width addr }
 {
     let here = usize::from(addr);
@@ -66,7 +66,7 @@ fn read_at(module: &Module, text: &[u8], words: &Words, width: Width, addr: u16)
 }
 
 /// What a read gives.
-pub fn read(module: &Module, text: &[u8], words: &Words, reach: &Reach) -> Val
+pub fn read(module: &Module, text: &[u8], words: &[Val], reach: &Reach) -> Val
     ensures { result ≡ read_val module.now text.now words.now reach.now }
 {
     match reach.addr {
@@ -75,17 +75,17 @@ pub fn read(module: &Module, text: &[u8], words: &Words, reach: &Reach) -> Val
     }
 }
 
-/// Writes a word of the data by its number, where it is one of the first 256.
-pub fn put_word(words: &mut Words, n: usize, value: Val)
+/// Writes a word of the data by its number, where something is known of it.
+pub fn put_word(words: &mut [Val], n: usize, value: Val)
     ensures { words.new ≡ slice_set words.old n value }
 {
-    if n < 256 {
+    if n < words.len() {
         words[n] = value;
     }
 }
 
 /// Writes a value at an address.
-fn write_at(module: &Module, words: &mut Words, width: Width, addr: u16, value: Val)
+fn write_at(module: &Module, words: &mut [Val], width: Width, addr: u16, value: Val)
     ensures { words.new ≡ write_at module.now words.old width addr value }
 {
     let n = word_number(module, addr);
@@ -99,7 +99,7 @@ fn write_at(module: &Module, words: &mut Words, width: Width, addr: u16, value: 
 }
 
 /// Writes a value.
-pub fn write(module: &Module, words: &mut Words, reach: &Reach, value: Val)
+pub fn write(module: &Module, words: &mut [Val], reach: &Reach, value: Val)
     ensures { words.new ≡ write_val module.now words.old reach.now value }
 {
     if let Val::Known(addr) = reach.addr {

@@ -17,7 +17,7 @@ use crate::branch::{BranchSite, is_same, site_of, walk_arms};
 use crate::call_string::CallString;
 use crate::domain::{blank_state, overlay_state, subsumes};
 use crate::point::Point;
-use crate::program::Program;
+use crate::program::{Flags, Program};
 use crate::relevant::Relevance;
 use crate::step::Stepped;
 use crate::stub::{step_base, step_point};
@@ -67,6 +67,7 @@ fn walked(
     state: &AbstractState,
     relevance: &mut Relevance,
 ) -> Summary
+    requires blurred { program.now.flags ≡ Flags.Blurred }
     ensures is { IsSummary program.now result }
     ensures branch { result.branch ≡ pc }
     ensures site { result.site ≡ site.now }
@@ -131,7 +132,8 @@ fn is_open(summary: &Summary) -> bool {
 
 /// A summary under as little of a state as the arms of an open branch need; where they come to more, the walk's own.
 fn widened(program: &Program<'_>, whole: Summary, relevance: &Relevance) -> Summary
-    requires { IsSummary program.now whole }
+    requires blurred { program.now.flags ≡ Flags.Blurred }
+    requires summary { IsSummary program.now whole }
     ensures { IsSummary program.now result }
 {
     if is_open(&whole) {
@@ -230,6 +232,7 @@ impl Summaries {
         pc: u16,
         state: &mut AbstractState,
     ) -> Result<Outcome, AllocError>
+        requires blurred { program.now.flags ≡ Flags.Blurred }
         requires summaries { AreSummaries program.now self.old.list.items }
         ensures open { IfOk result (λ outcome. outcome ≡ Outcome.Open → (call_string : List ℕ) →
             OpensTo program.now site.now (branch_from pc call_string state.old) state.new) }
@@ -267,6 +270,7 @@ pub fn step_with(
     place: usize,
     point: &mut Point,
 ) -> Result<Stepped, AllocError>
+    requires blurred { program.now.flags ≡ Flags.Blurred }
     requires summaries { AreSummaries program.now summaries.old.list.items }
     ensures calm { IfOk result (λ s. s.least ≡ None → (flow program.now (point_at point.old)).violations ≡ []) }
     ensures stirred { IfOk result (λ s. (c : Violation) → s.least ≡ Some c →
@@ -305,6 +309,7 @@ fn violation_of_arms(
     point: &Point,
     mut least: Option<Violation>,
 ) -> Option<Violation>
+    requires blurred { program.now.flags ≡ Flags.Blurred }
     requires summaries { AreSummaries program.now summaries.now.list.items }
     ensures { result ≡ noted (flow_at program.now site.now (point_at point.now)).violations least }
 {
@@ -325,6 +330,7 @@ pub fn violation_with(
     point: &Point,
     least: Option<Violation>,
 ) -> Option<Violation>
+    requires blurred { program.now.flags ≡ Flags.Blurred }
     requires summaries { AreSummaries program.now summaries.now.list.items }
     ensures { result ≡ noted (flow program.now (point_at point.now)).violations least }
 {
@@ -334,7 +340,13 @@ pub fn violation_with(
             let mut stepped = Stepped::new(&point.call_string);
             stepped.least = least;
             let mut state = point.state;
-            step_base(program, point.addr, &mut state, &mut stepped);
+            step_base(
+                program,
+                point.addr,
+                &mut state.core,
+                &mut state.words,
+                &mut stepped,
+            );
             stepped.least
         }
     }

@@ -1,20 +1,22 @@
 //! The transfer functions: what an instruction does to an abstract state.
 
-ghost use Rattle.std.specs.Prelude.{◌≡◌, ◌==◌, ◌<◌, [], ◌∷◌, true, if◌then◌else◌, Some, None};
+ghost use Rattle.std.specs.Prelude.{◌≡◌, ◌==◌, ◌<◌, [], ◌∷◌, true, if◌then◌else◌, Some, None, slice_set};
 ghost use Rattle.sm_words.specs.Sums.{low, one_if};
 ghost use Rattle.sm_words.specs.Words.{nth};
 ghost use Rattle.cpu_step.specs.Plan.{reads_dst, writes_dst};
 ghost use Rattle.cpu_step.specs.Effect.{in_memory, value_of, two_result, one_result};
-ghost use Rattle.flow_rule.specs.Values.{over, over_one, put_val};
+ghost use Rattle.flow_rule.specs.Values.{over, over_one};
 ghost use Rattle.flow_rule.specs.Does.{reads_carry, sets_flags, one_reads_carry, one_sets_flags};
-ghost use Rattle.flow_rule.specs.Does.{read_if, told_of, two_val, one_val};
+ghost use Rattle.flow_rule.specs.Does.{read_if, told_of, two_val, one_val, flags_of};
 ghost use Rattle.flow_rule.specs.Does.{set_flags_by, given_val, after_val};
 ghost use Rattle.flow_rule.specs.Does.{into_register_val, written_val, clears, clears_flags};
 ghost use Rattle.flow_rule.specs.Does.{cleared_if, carry_val, one_done_val, does_val};
 ghost use Rattle.flow_check.specs.internal.Carries.{IsCarry};
+ghost use Rattle.flow_check.specs.internal.Programs.{domain_of};
 
 use crate::accesses::{increment, lower, reads_destination, step_past, writes_destination};
-use crate::domain::{Core, blurred_all, carry, get, narrow, put, seen};
+use crate::domain::{Core, blurred_all, carry, cleared, get, narrow, put, put_flags, seen};
+use crate::program::Flags;
 use arm_balance::target;
 use arrayvec::ArrayVec;
 use cpu_step::{one_result, two_result};
@@ -132,44 +134,70 @@ fn told(value: Val, sets: bool, flags: Val) -> Told
     }
 }
 
-/// Format I, but for a word MOV.
-fn worked(op: TwoOp, width: Width, s: Val, d: Val, c: Val) -> Told
+/// The flags that format I sets.
+fn two_flags(flags: Flags, op: TwoOp, width: Width, s: Val, d: Val, c: Val) -> Val
     requires { IsCarry c }
-    ensures { result ≡ told_of (sets_flags op) (two_result op width) s (read_if (reads_dst op) d)
+    ensures { result ≡ (domain_of flags).told (λ x y z. flags_of (two_result op width x y z)) s d c }
+{
+    match (flags, s, d, c) {
+        (Flags::Followed, Val::Known(x), Val::Known(y), Val::Known(z)) => {
+            let computed = two_result(op, width, x, y, is_one(z));
+            Val::Known(computed.with_flags(0))
+        }
+        _ => blurred_all(s, d, c),
+    }
+}
+
+/// The flags that format II sets.
+fn one_flags(flags: Flags, op: OneOp, width: Width, a: Val, c: Val) -> Val
+    requires { IsCarry c }
+    ensures { result ≡ (domain_of flags).told (λ x y z. flags_of (one_result op width x y)) a c (Val.Known 0) }
+{
+    match (flags, a, c) {
+        (Flags::Followed, Val::Known(x), Val::Known(y)) => {
+            let computed = one_result(op, width, x, is_one(y));
+            Val::Known(computed.with_flags(0))
+        }
+        _ => blurred_all(a, c, Val::Known(0)),
+    }
+}
+
+/// Format I, but for a word MOV.
+fn worked(flags: Flags, op: TwoOp, width: Width, s: Val, d: Val, c: Val) -> Told
+    requires { IsCarry c }
+    ensures { result ≡ told_of (domain_of flags) (sets_flags op) (two_result op width) s (read_if (reads_dst op) d)
         (read_if (reads_carry op) c) }
 {
     let old = read_if(reads_destination(op), d);
     let carry = carry_if(reads_carry(op), c);
     let value = two_value(op, width, s, old, carry);
-    told(value, sets_flags(op), blurred_all(s, old, carry))
+    let set = two_flags(flags, op, width, s, old, carry);
+    told(value, sets_flags(op), set)
 }
 
 /// Format I: of the source, the destination and C.
-fn two(op: TwoOp, width: Width, s: Val, d: Val, c: Val) -> Told
+fn two(flags: Flags, op: TwoOp, width: Width, s: Val, d: Val, c: Val) -> Told
     requires { IsCarry c }
-    ensures { result ≡ two_val op width s d c }
+    ensures { result ≡ two_val (domain_of flags) op width s d c }
 {
     match (op, width) {
         (TwoOp::Mov, Width::Word) => Told {
             value: s,
             flags: None,
         },
-        _ => worked(op, width, s, d, c),
+        _ => worked(flags, op, width, s, d, c),
     }
 }
 
 /// Format II: of the operand and C.
-fn single(op: OneOp, width: Width, a: Val, c: Val) -> Told
+fn single(flags: Flags, op: OneOp, width: Width, a: Val, c: Val) -> Told
     requires { IsCarry c }
-    ensures { result ≡ one_val op width a c }
+    ensures { result ≡ one_val (domain_of flags) op width a c }
 {
     let carry = carry_if(one_reads_carry(op), c);
     let value = one_value(op, width, a, carry);
-    told(
-        value,
-        one_sets_flags(op),
-        blurred_all(a, carry, Val::Known(0)),
-    )
+    let set = one_flags(flags, op, width, a, carry);
+    told(value, one_sets_flags(op), set)
 }
 
 /// The low byte, or the word.
@@ -226,47 +254,55 @@ fn after_given(operand: Operand, values: &[Val]) -> &[Val]
 }
 
 /// Sets the flags, if they are set.
-fn set_flags(flags: Option<Val>, core: &mut Core)
-    ensures { core.new ≡ set_flags_by flags core.old }
+fn set_flags(flags: Flags, set: Option<Val>, core: &mut Core)
+    ensures { core.new ≡ set_flags_by (domain_of flags) set core.old }
 {
-    if let Some(flags) = flags {
-        put(core, 2, flags);
+    if let Some(value) = set {
+        put_flags(flags, core, value);
     }
 }
 
 /// Puts a result into a register.
-fn put_result(reg: u8, told: &Told, core: &mut Core)
-    ensures { core.new ≡ into_register_val (reg == 2) reg told.now core.old }
+fn put_result(flags: Flags, reg: u8, told: &Told, core: &mut Core)
+    ensures { core.new ≡ into_register_val (domain_of flags) (reg == 2) reg told.now core.old }
 {
-    if reg != 2 {
-        set_flags(told.flags, core);
+    if reg == 2 {
+        put_flags(flags, core, told.value);
+    } else {
+        set_flags(flags, told.flags, core);
+        put(core, reg, told.value);
     }
-    put(core, reg, told.value);
 }
 
 /// Writes a result into its operand.
-fn write_result(operand: Operand, told: &Told, core: &mut Core) -> Stored
-    ensures core { core.new ≡ (written_val true operand told.now core.old).core }
-    ensures stored { result.items ≡ (written_val true operand told.now core.old).stored }
+fn write_result(flags: Flags, operand: Operand, told: &Told, core: &mut Core) -> Stored
+    ensures core { core.new ≡ (written_val (domain_of flags) true operand told.now core.old).core }
+    ensures stored { result.items ≡ (written_val (domain_of flags) true operand told.now core.old).stored }
 {
     if let Operand::Reg(reg) = operand {
-        put_result(reg, told, core);
+        put_result(flags, reg, told, core);
         Stored::new()
     } else {
-        set_flags(told.flags, core);
+        set_flags(flags, told.flags, core);
         one(told.value)
     }
 }
 
 /// Writes a result into its operand, or sets the flags alone.
-fn finish(written: bool, operand: Operand, told: &Told, core: &mut Core) -> Stored
-    ensures core { core.new ≡ (written_val written operand told.now core.old).core }
-    ensures stored { result.items ≡ (written_val written operand told.now core.old).stored }
+fn finish(
+    flags: Flags,
+    written: bool,
+    operand: Operand,
+    told: &Told,
+    core: &mut Core,
+) -> Stored
+    ensures core { core.new ≡ (written_val (domain_of flags) written operand told.now core.old).core }
+    ensures stored { result.items ≡ (written_val (domain_of flags) written operand told.now core.old).stored }
 {
     if written {
-        write_result(operand, told, core)
+        write_result(flags, operand, told, core)
     } else {
-        set_flags(told.flags, core);
+        set_flags(flags, told.flags, core);
         Stored::new()
     }
 }
@@ -291,12 +327,12 @@ fn clears_flags(op: TwoOp, width: Width, dst: Operand, source: Val) -> bool
     }
 }
 
-/// Makes the flags Public where they become 0.
-fn clear_if(cleared: bool, core: &mut Core)
-    ensures { core.new ≡ (if cleared then put_val core.old 2 Val.Public else core.old) }
+/// What the flags are where they become 0.
+fn clear_if(flags: Flags, clears: bool, core: &mut Core)
+    ensures { core.new ≡ (if clears then slice_set core.old 2 (domain_of flags).cleared else core.old) }
 {
-    if cleared {
-        put(core, 2, Val::Public);
+    if clears {
+        core[2] = cleared(flags);
     }
 }
 
@@ -310,36 +346,35 @@ fn copied(value: Val) -> Val
     }
 }
 
-/// Writes what format I gave.
+/// Writes what format I gave, where it makes the flags 0 or not.
 fn finish_two(
+    flags: Flags,
     op: TwoOp,
-    width: Width,
+    clears: bool,
     dst: Operand,
-    source: Val,
     told: &Told,
     core: &mut Core,
 ) -> Stored
-    ensures core { core.new ≡ (cleared_if (clears_flags op width dst source)
-        (written_val (writes_dst op) dst told.now core.old)).core }
-    ensures stored { result.items ≡ (written_val (writes_dst op) dst told.now core.old).stored }
+    ensures core { core.new ≡ (cleared_if (domain_of flags) clears
+        (written_val (domain_of flags) (writes_dst op) dst told.now core.old)).core }
+    ensures stored { result.items ≡ (written_val (domain_of flags) (writes_dst op) dst told.now core.old).stored }
 {
-    let stored = finish(writes_destination(op), dst, told, core);
-    clear_if(clears_flags(op, width, dst, source), core);
+    let stored = finish(flags, writes_destination(op), dst, told, core);
+    clear_if(flags, clears, core);
     stored
 }
 
-/// Format II, where the operand is read and its increment is done.
+/// Format II, where the operand is read, its increment is done and its result is told.
 fn finish_one(
+    flags: Flags,
     op: OneOp,
-    width: Width,
     arg: Operand,
     operand: Val,
-    carry: Val,
+    told: &Told,
     core: &mut Core,
 ) -> Stored
-    requires { IsCarry carry }
-    ensures core { core.new ≡ (one_done_val op width arg operand carry core.old).core }
-    ensures stored { result.items ≡ (one_done_val op width arg operand carry core.old).stored }
+    ensures core { core.new ≡ (one_done_val (domain_of flags) op arg operand told.now core.old).core }
+    ensures stored { result.items ≡ (one_done_val (domain_of flags) op arg operand told.now core.old).stored }
 {
     match op {
         OneOp::Push => {
@@ -353,16 +388,16 @@ fn finish_one(
             one(next)
         }
         OneOp::Rrc | OneOp::Swpb | OneOp::Rra | OneOp::Sxt => {
-            write_result(arg, &single(op, width, operand, carry), core)
+            write_result(flags, arg, told, core)
         }
     }
 }
 
 /// The instruction at `pc`, once its reads gave these values; a jump is taken.
-#[tactic(auto, unfolding(flow_rule::specs::Does::does_val_as))]
-pub fn does(insn: &Insn, pc: u16, core: &mut Core, values: &[Val]) -> Stored
-    ensures core { core.new ≡ (does_val insn.now pc core.old values.now).core }
-    ensures stored { result.items ≡ (does_val insn.now pc core.old values.now).stored }
+#[tactic(auto, unfolding(flow_rule::specs::Does::does_val))]
+pub fn does(flags: Flags, insn: &Insn, pc: u16, core: &mut Core, values: &[Val]) -> Stored
+    ensures core { core.new ≡ (does_val (domain_of flags) insn.now pc core.old values.now).core }
+    ensures stored { result.items ≡ (does_val (domain_of flags) insn.now pc core.old values.now).stored }
 {
     let carry = carry_of(core);
     step_past(insn, pc, core);
@@ -376,13 +411,15 @@ pub fn does(insn: &Insn, pc: u16, core: &mut Core, values: &[Val]) -> Stored
             let source = given(src, width, core, values);
             increment(width, src, core);
             let old = given(dst, width, core, after_given(src, values));
-            let told = two(op, width, source, old, carry);
-            finish_two(op, width, dst, source, &told, core)
+            let told = two(flags, op, width, source, old, carry);
+            let clears = clears_flags(op, width, dst, source);
+            finish_two(flags, op, clears, dst, &told, core)
         }
         Insn::One { op, width, arg } => {
             let operand = given(arg, width, core, values);
             increment(width, arg, core);
-            finish_one(op, width, arg, operand, carry, core)
+            let told = single(flags, op, width, operand, carry);
+            finish_one(flags, op, arg, operand, &told, core)
         }
         Insn::Jump { offset, .. } => {
             put(core, 0, Val::Known(target(pc, offset)));

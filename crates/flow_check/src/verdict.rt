@@ -10,7 +10,7 @@ ghost use Rattle.flow_check.specs.internal.Programs.{flow};
 ghost use Rattle.flow_check.specs.internal.Summaries.{AreSummaries};
 
 use crate::labelling::{Changed, Labelling};
-use crate::program::Program;
+use crate::program::{Flags, Program};
 use crate::summaries::{Summaries, violation_with};
 use crate::violation::Violation;
 use crate::worklist::iterate;
@@ -26,6 +26,7 @@ fn least_more(
     i: usize,
     least: Option<Violation>,
 ) -> Option<Violation>
+    requires blurred { program.now.flags ≡ Flags.Blurred }
     requires summaries { AreSummaries program.now summaries.now.list.items }
     requires here { i < length all.now }
     ensures { noted (all_violations (flow program.now) (points_of (drop i all.now))) least
@@ -38,6 +39,7 @@ fn least_more(
 /// The least violation of the program points under their states.
 #[tactic(auto, using(crate::proofs::Verdicts::least_end))]
 fn least_of(program: &Program<'_>, summaries: &Summaries, all: &Labelling) -> Option<Violation>
+    requires blurred { program.now.flags ≡ Flags.Blurred }
     requires summaries { AreSummaries program.now summaries.now.list.items }
     ensures { result ≡ noted (all_violations (flow program.now) (points_of all.now)) None }
 {
@@ -65,6 +67,7 @@ fn verdict_of(least: Option<Violation>) -> Verdict
 /// The verdict where an iteration changed nothing.
 #[tactic(auto, using(crate::proofs::Verdicts::decided_rest))]
 fn decide(program: &Program<'_>, summaries: &Summaries, all: &Labelling) -> Verdict
+    requires blurred { program.now.flags ≡ Flags.Blurred }
     requires summaries { AreSummaries program.now summaries.now.list.items }
     requires fit { length all.now ≤ 16384 }
     ensures { (start : PointState) (begin : ℕ) →
@@ -82,6 +85,7 @@ pub fn verdict(
     start: u16,
     first: &AbstractState,
 ) -> Result<Verdict, AllocError>
+    requires blurred { program.now.flags ≡ Flags.Blurred }
     ensures { IfOk result (λ v. Decided
         (flow program.now) record {
           point = record { addr = start; call_string = [] };

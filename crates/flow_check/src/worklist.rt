@@ -8,7 +8,7 @@ ghost use Rattle.flow_check.specs.internal.Summaries.{AreSummaries};
 ghost use Rattle.flow_check.specs.internal.Labellings.{KeptPoints, NoMark, StillKept};
 
 use crate::labelling::{Changed, Labelling};
-use crate::program::Program;
+use crate::program::{Flags, Program};
 use crate::summaries::{Summaries, step_with};
 use std::alloc::{AllocError, Global};
 
@@ -23,6 +23,7 @@ fn give(
     all: &mut Labelling,
     changed: &Changed,
 ) -> Result<(), AllocError>
+    requires blurred { program.now.flags ≡ Flags.Blurred }
     requires summaries { AreSummaries program.now summaries.old.list.items }
     ensures joined { IfOk result (λ _. (rest : List Changed) →
         join_all (given_points (flow program.now) (fronts_of (changed.now ∷ rest)))
@@ -48,6 +49,7 @@ pub fn iterate(
     all: &mut Labelling,
     front: &[Changed],
 ) -> Result<bool, AllocError>
+    requires blurred { program.now.flags ≡ Flags.Blurred }
     requires summaries { AreSummaries program.now summaries.old.list.items }
     requires clear { NoMark all.old }
     ensures joined { IfOk result (λ many. many ≡ false → points_of all.new

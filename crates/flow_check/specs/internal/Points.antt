@@ -4,6 +4,7 @@ use Rattle.flow_check.specs.declared.point.Point.{Point}
 use Rattle.flow_check.specs.declared.labelling.Node.{Node}
 use Rattle.flow_check.specs.declared.labelling.Changed.{Changed}
 use Rattle.flow_check.specs.declared.call_string.CallString.{CallString}
+use Rattle.flow_rule.specs.declared.Val.{Val}
 use Rattle.flow_rule.specs.declared.Val.TheVariants.{Known}
 use Rattle.flow_rule.specs.declared.AbstractState.{AbstractState}
 use Rattle.flow_rule.specs.Iterations.{ProgramPoint, PointState}
@@ -19,6 +20,10 @@ program_point p = record { addr = p.addr; call_string = list_of p.call_string }
 -- its address and then its return addresses
 abbrev pub key_of : ProgramPoint → List ℕ
 key_of p = p.addr ∷ p.call_string
+
+-- these values of registers and data words
+abbrev pub state_of : List Val → List Val → AbstractState
+state_of core words = record { core = core; words = words }
 
 -- the point at an address with this call string and this state
 abbrev pub point_of : ℕ → CallString → AbstractState → PointState

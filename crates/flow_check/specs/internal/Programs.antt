@@ -1,12 +1,23 @@
 -- The rule of flow over a program.
+use Rattle.flow_check.specs.declared.program.Flags.{Flags}
+use Rattle.flow_check.specs.declared.program.Flags.TheVariants.{Blurred, Followed}
 use Rattle.std.specs.Prelude.{ℕ}
-use Rattle.flow_rule.specs.Values.{blurred_flags}
+use Rattle.flow_rule.specs.Values.{FlagDomain, blurred_flags, known_flags}
 use Rattle.flow_rule.specs.Iterations.{PointState, FlowStep}
 use Rattle.flow_rule.specs.Verdict.{flow_step}
 use Rattle.flow_rule.specs.Arms.{Walk, walk, first_walk, second_walk, flow_under, step_arm}
 use Rattle.flow_check.specs.declared.program.Program.{Program}
 use Rattle.flow_check.specs.declared.branch.BranchSite.{BranchSite}
 use Rattle.flow_check.specs.internal.Terms.{terms_in}
+
+-- what a program's flags are to the rule
+abbrev pub domain_of : Flags → FlagDomain
+domain_of Blurred = blurred_flags
+domain_of Followed = known_flags
+
+-- the step of a point but for branches with a certificate, as its flags are kept
+abbrev pub step_by : Program → PointState → FlowStep
+step_by p = flow_step (domain_of p.flags) (terms_in p) p.module.now p.text.now
 
 -- the step of a point
 abbrev pub flow : Program → PointState → FlowStep

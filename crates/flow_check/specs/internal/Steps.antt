@@ -1,4 +1,6 @@
 -- Steps as the code tells them: addresses, with one call string and one state but for PC.
+use Rattle.insn_decode.specs.declared.insn.Condition.{Condition}
+use Rattle.insn_decode.specs.declared.insn.Condition.TheVariants.{Always}
 use Rattle.std.specs.Prelude.{◌≡◌, ◌++◌, ℕ, [], None}
 use Rattle.insn_decode.specs.declared.insn.Insn.{Insn}
 use Rattle.insn_decode.specs.declared.insn.Insn.TheVariants.{Jump}
@@ -7,7 +9,7 @@ use Rattle.flow_rule.specs.Terms.{Terms}
 use Rattle.flow_rule.specs.declared.AbstractState.{AbstractState}
 use Rattle.flow_rule.specs.declared.Val.TheVariants.{Public}
 use Rattle.flow_rule.specs.Iterations.{FlowStep}
-use Rattle.flow_rule.specs.Values.{put_val, blurred_flags}
+use Rattle.flow_rule.specs.Values.{put_val, FlagDomain}
 use Rattle.flow_rule.specs.Does.{does_val, past_val}
 use Rattle.flow_rule.specs.Going.{goes}
 use Rattle.flow_check.specs.declared.call_string.CallString.{CallString}
@@ -33,8 +35,8 @@ pub record Gives (step : FlowStep) (new : Stepped) (state : AbstractState) : Typ
   pub successors : SuccessorsAlike step new.call_string state
 
 -- the step to where a jump goes
-abbrev pub jump_step : Terms → Module → Insn → ℕ → CallString → AbstractState → FlowStep
-jump_step terms m insn pc call_string state = goes terms m pc (list_of call_string) (does_val blurred_flags insn pc state.core []).core state.words
+abbrev pub jump_step : FlagDomain → Terms → Module → Insn → ℕ → CallString → AbstractState → FlowStep
+jump_step flags terms m insn pc call_string state = goes terms m pc (list_of call_string) (does_val flags insn pc state.core []).core state.words
 
 -- the step to the next instruction
 abbrev pub next_step : Terms → Module → Insn → ℕ → CallString → AbstractState → FlowStep
@@ -44,6 +46,11 @@ next_step terms m insn pc call_string state = goes terms m pc (list_of call_stri
 abbrev pub id_step : Terms → Module → Insn → ℕ → CallString → AbstractState → FlowStep
 id_step terms m insn pc call_string state =
     goes terms m pc (list_of call_string) (put_val (past_val insn pc state.core) 15 Public) state.words
+
+-- the condition of a jump
+abbrev pub condition_of : Insn → Condition
+condition_of (Jump condition offset) = condition
+condition_of insn = Always
 
 -- a jump
 abbrev pub IsJump : Insn → Type 0

@@ -1,5 +1,5 @@
-use Rattle.std.proofs.Common.{◌≡◌, ◌∙◌, ap, sym, arith, suc, ◌-◌}
-use Rattle.flow_check.specs.internal.Arms.{tally_told}
+use Rattle.std.proofs.Common.{◌≡◌, ◌∙◌, ap, sym, arith, suc, ◌-◌, ◌+◌}
+use Rattle.flow_check.specs.internal.Arms.{untold, tally_told}
 use Rattle.flow_check.specs.internal.Points.{point_at}
 use Rattle.flow_check.specs.internal.Programs.{arm_walk}
 use Rattle.flow_check.proofs.Walking.{walk_there}
@@ -33,3 +33,11 @@ returns c =
     let none : c.loop-left.left ≡ 0 = omega arith in
     sym (c.loop-left.invariant.rest
     ∙ ap (λ n. tally_told (arm_walk c.args.program.now c.args.join n (point_at c.loop-left.point)) c.loop-left.tally) none)
+
+pub loop-left-init : goal.loop-left-init
+loop-left-init c = record {
+  rest =
+      let all : suc c.args.join ≡ c.from-left.result + 1 = omega (arith, c.from-left.ensures) in
+      ap (λ n. tally_told (arm_walk c.args.program.now c.args.join n (point_at c.args.from.now)) (untold c.args.state.now)) all;
+  short = omega (arith, c.from-left.ensures);
+}

@@ -2,6 +2,7 @@ use Rattle.std.proofs.Common.{◌∙◌, ap, sym}
 use Rattle.flow_check.specs.internal.Points.{point_at, point_of}
 use Rattle.flow_check.specs.internal.Programs.{base_flow}
 use Rattle.flow_check.specs.internal.Violations.{noted}
+use Rattle.flow_check.proofs.Stubs.{blurred_step}
 use Rattle.flow_check.proofs.Walking.{by_site, by_none}
 use Rattle.flow_check.proofs.summaries.violation_with.Goals as goal
 
@@ -15,5 +16,5 @@ returns-in-None c =
     let p = c.args.program.now in
     let point = c.args.point.now in
     let none = by_none p (point_at point) c.site_of.result c.site_of.ensures c.in-None.is in
-    c.step_base.ensures.least ∙ ap (λ r. noted (base_flow p (point_of point.addr r point.state)).violations c.args.least) c.new-stepped.ensures.call_string
+    c.step_base.ensures.least ∙ ap (λ s. noted s.violations c.args.least) (blurred_step p (point_of point.addr c.new-stepped.result.call_string point.state) c.requires.blurred) ∙ ap (λ r. noted (base_flow p (point_of point.addr r point.state)).violations c.args.least) c.new-stepped.ensures.call_string
     ∙ ap (λ s. noted s.violations c.args.least) (sym none)
