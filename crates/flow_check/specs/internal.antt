@@ -9,3 +9,4 @@ pub mod Labellings
 pub mod Steps
 pub mod Summaries
 pub mod Programs
+pub mod Exploring

@@ -1,5 +1,5 @@
 -- Exploring: a text is walked depth first from state to state, which are not joined, as far as a number of steps goes.
-use Rattle.std.specs.Prelude.{◌≡◌, ℕ, zero, suc, ◌+◌, ◌/◌, List, [], ◌∷◌, length, nat_lt, ◌==◌, if◌then◌else◌, Bool, true, false, ◌&&◌, ◌||◌, not, Option, Some, None}
+use Rattle.std.specs.Prelude.{◌≡◌, ℕ, zero, suc, ◌+◌, ◌-◌, ◌/◌, List, [], ◌∷◌, length, nat_lt, ◌==◌, if◌then◌else◌, Bool, true, false, ◌&&◌, ◌||◌, not, Option, Some, None}
 use Rattle.insn_decode.specs.declared.insn.Insn.{Insn}
 use Rattle.insn_decode.specs.declared.insn.Insn.TheVariants.{Jump}
 use Rattle.insn_decode.specs.Code.{is_always}
@@ -10,6 +10,9 @@ use Rattle.arm_balance.specs.Met.{met}
 use Rattle.flow_rule.specs.Terms.{Terms}
 use Rattle.flow_rule.specs.declared.Val.{Val}
 use Rattle.flow_rule.specs.declared.Val.TheVariants.{Known, Away, Public, Secret}
+use Rattle.flow_rule.specs.declared.Unrolling.{Unrolling}
+use Rattle.flow_rule.specs.declared.Unrolling.TheVariants as Unrolling
+use Rattle.flow_rule.specs.Violations.{AmongThem, BeforeAll}
 use Rattle.flow_rule.specs.Iterations.{PointState, RuleViolation, FlowStep}
 use Rattle.flow_rule.specs.Verdict.{start_knowing}
 use Rattle.flow_rule.specs.Arms.{flow_under}
@@ -82,6 +85,14 @@ abbrev pub explore_on : (List PointState → List PointState → Explored) → �
 explore_on rest left addr (Goes to_come kept) = rest to_come kept
 explore_on rest left addr (Fails violations) = Violated left violations
 explore_on rest left addr Overflows = Unfinished left addr
+
+-- what is told of an exploration by so many steps: how many of them it took, with the least violation of the first state that has any,
+-- or where it stopped
+abbrev pub IsUnrolling : ℕ → Explored → Unrolling → Type 0
+IsUnrolling steps (Complete left kept) u = u ≡ Unrolling.Yes (steps - left)
+IsUnrolling steps (Violated left violations) u =
+    (r : RuleViolation) × AmongThem r violations × BeforeAll r violations × (u ≡ Unrolling.No r.addr r.why r.value)
+IsUnrolling steps (Unfinished left addr) u = u ≡ Unrolling.Unfinished addr (steps - left)
 
 -- the states to come, one in each step
 abbrev pub explore : (PointState → FlowStep) → (PointState → Bool) → ℕ → List PointState → List PointState → ℕ → Explored

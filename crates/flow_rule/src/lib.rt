@@ -71,6 +71,25 @@ pub enum Verdict {
     },
 }
 
+/// How a text is unrolled, with the steps that this took.
+#[derive(Clone, Copy, Debug, PartialEq, Eq)]
+pub enum Unrolling {
+    Yes {
+        steps: u32,
+    },
+    /// The first violation on the way.
+    No {
+        addr: u16,
+        reason: Reason,
+        value: u16,
+    },
+    /// Steps or room ended before this address.
+    Unfinished {
+        addr: u16,
+        steps: u32,
+    },
+}
+
 /// Where a branch has no violation under a state, its arms do the same under every state that this one absorbs.
 pub fn arms_rest()
     ensures rest { ArmsRest }

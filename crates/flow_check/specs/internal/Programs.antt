@@ -19,6 +19,10 @@ domain_of Followed = known_flags
 abbrev pub step_by : Program → PointState → FlowStep
 step_by p = flow_step (domain_of p.flags) (terms_in p) p.module.now p.text.now
 
+-- the same with these branches
+abbrev pub flow_by : Program → PointState → FlowStep
+flow_by p = flow_under (domain_of p.flags) (terms_in p) p.module.now p.text.now p.arms.now
+
 -- the step of a point
 abbrev pub flow : Program → PointState → FlowStep
 flow p = flow_under blurred_flags (terms_in p) p.module.now p.text.now p.arms.now
