@@ -161,3 +161,7 @@ rests_there step start ns cs front r f same e = reached_rests step start ns cs (
 pub decided_many : (step : PointState → FlowStep) (start : PointState) (begin : ℕ) (ns cs : List Node) (front : List PointState) → Reached step start ns → front ≡ changed_points ns → points_of cs ≡ points_of ns →
     16384 < length (join_all (given_points step front) (points_of cs)) → Decided step start begin (No begin TooMany 0)
 decided_many step start begin ns cs front r f same many = let n = reached_many step start ns cs front r f same many in inr (n.0, n.1, refl)
+
+-- the least of some violations
+pub least_is : (rs : List RuleViolation) (v : Violation) → noted rs None ≡ Some v → AmongThem (rule_violation v) rs × BeforeAll (rule_violation v) rs
+least_is rs v e = subst (λ o. Least o rs) e (least_noted rs None [] refl)

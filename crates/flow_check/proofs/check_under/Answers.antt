@@ -5,7 +5,7 @@ use Rattle.flow_rule.specs.Values.{blurred_flags}
 use Rattle.flow_rule.specs.declared.Verdict.TheVariants.{Yes}
 use Rattle.flow_rule.specs.Terms.{Terms}
 use Rattle.flow_rule.specs.Iterations.{PointState}
-use Rattle.flow_rule.specs.Verdict.{Decided}
+use Rattle.flow_rule.specs.Verdict.{Decided, known_words}
 use Rattle.flow_rule.specs.Arms.{flow_under, VerdictUnder}
 use Rattle.flow_laws.specs.Laws.{EvenUnder, KeptUnder}
 use Rattle.flow_check.specs.internal.Stubs.{IsStub}
@@ -23,7 +23,7 @@ returns-clause-verdict c =
     let stub : IsStub m text c.entries-entries.result = record { is = c.entries-entries.ensures.is; high = c.requires.text.high; even = c.requires.text.even_start } in
     IfOk-weaker c.verdict.result (λ v. Decided (flow_under blurred_flags terms m text c.as_slice.result.now) start m.text.start v) (λ v. VerdictUnder terms m text arms v)
     (λ v h. subst (λ s. Decided (flow_under blurred_flags terms m text arms) s m.text.start v)
-    (start_is terms m text c.entries-entries.result c.is_some-stub.result c.begins-start.result c.first-state.result stub c.is_some-stub.ensures c.begins-start.ensures.plain c.begins-start.ensures.stub c.first-state.ensures)
+    (start_is known_words terms m text c.entries-entries.result c.is_some-stub.result c.begins-start.result c.first-state.result stub c.is_some-stub.ensures c.begins-start.ensures.plain c.begins-start.ensures.stub c.first-state.ensures)
     (subst (λ arms. Decided (flow_under blurred_flags terms m text arms) start m.text.start v) c.as_slice.ensures.value h))
     c.verdict.ensures
 
