@@ -4,7 +4,7 @@
 At the top of the repository: .ci/model.py. It says where a crate names another's specs/internal, where a public clause
 reaches a definition there, where a definition outside is reached by none, and which file of the headline or of linking
 docs/MODEL.md leaves out, has before one that it uses, or gives another number of lines of the headline, and where
-README.md tells another sum of these. Its status is 1 where there is such a place.
+README.md tells another sum of these. Its status is 1 where there is such a place. The last line is 'N definitions, M faults'.
 """
 import pathlib, re, sys
 
@@ -66,5 +66,5 @@ def model():
 reached.load()
 faults = sorted(set(internals())) + list(dict.fromkeys(model()))
 print(*faults, sep="\n" if faults else "")
-print(f"definitions: {len(faults)} faults")
+print(f"{sum(len(file.defs) for file in reached.specs.values())} definitions, {len(faults)} faults")
 sys.exit(1 if faults else 0)
