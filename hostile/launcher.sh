@@ -34,7 +34,7 @@ gives() {
 
 # What a copy is made of: all that the launcher, the build and the release read.
 mkdir -p whole bin
-(cd "$top" && tar c --exclude=out --exclude=proofs --exclude=must-fail sancus sancus-lab build crates.txt crates release CHANGELOG.md \
+(cd "$top" && tar c --exclude=out --exclude=proofs --exclude=must-fail sancus sancus-lab build setup crates.txt crates release CHANGELOG.md \
     README.md docs examples/first.img web/*.mjs) | tar x -C whole || exit 1
 cat >bin/rt <<'RT'
 #!/bin/bash
@@ -63,6 +63,14 @@ chmod +x bin/rt
 bare=/usr/bin:/bin
 PATH=$bare
 ! command -v rt || { echo "a path without rt is wanted, not $bare"; exit 1; }
+
+# appears FILE: waits for it, ten seconds at most.
+appears() {
+    for _ in $(seq 200); do
+        [ ! -e "$1" ] || return
+        sleep 0.05
+    done
+}
 
 fresh() {
     rm -rf c
@@ -253,7 +261,7 @@ for signal in HUP INT QUIT PIPE TERM; do
     rm -f works
     WORKS=$room/works TMPDIR=$room/tmp env --default-signal c/sancus image $first - 4 >/dev/null 2>&1 &
     work=$!
-    until [ -e works ]; do sleep 0.05; done
+    appears works
     kill -s "$signal" "$work"
     wait "$work" 2>/dev/null
     status=$?
@@ -275,7 +283,7 @@ for signal in INT TERM HUP QUIT PIPE USR1 KILL; do
     rm -f works
     WORKS=$room/works env --default-signal c/build >said 2>&1 &
     work=$!
-    until [ -e works ]; do sleep 0.05; done
+    appears works
     [ "$signal" != INT ] || gives 'a second build beside the first' '1 build: another build is at work here; out/build.log has what it says' c/build
     kill -s "$signal" "$work"
     wait "$work" 2>/dev/null
@@ -289,6 +297,20 @@ fresh
 rm -f works
 WORKS=$room/works c/build 2>&1 | head -n 1 >/dev/null
 row 'a build whose reader went away leaves nothing' 0 "$(fuser c/out/build.lock c/out/build.alive 2>/dev/null | wc -w)"
+
+# ---- what is installed
+printf '%s\n' '#!/bin/sh' 'shift 3' 'for name; do [ "$name" = "$LACKS" ] || echo "$name installed"; done' >other/dpkg-query
+printf '%s\n' '#!/bin/sh' 'echo apt-get "$@"' >other/apt-get
+printf '%s\n' '#!/bin/sh' 'echo "$USER_ID"' >other/id
+chmod +x other/*
+rm other/uname
+PATH=$room/other:$PATH
+gives 'all packages there' '0 ' c/setup
+LACKS=cmark USER_ID=0 gives 'one lacks' '0 apt-get update
+apt-get install --no-install-recommends -y cmark' c/setup
+LACKS=cmark USER_ID=1000 gives 'one lacks, and no right to install it' \
+    '1 setup: run as root: apt-get update && apt-get install --no-install-recommends -y cmark ' c/setup
+PATH=${PATH#*:}
 
 # ---- the release
 export KIT=$kit
