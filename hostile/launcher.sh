@@ -146,7 +146,7 @@ cp whole/release/sancus-lab c/release/sancus
 stays 'the second program under the name of the first' "$absent"$'\n'"$checksum"
 rm c/release/sancus
 said=$(c/sancus image c/examples/first.img - 4 2>&1)
-row 'no program in release/' '125 sancus: release/sancus is not there, or cannot be read' "$? $(grep release/ <<<"$said")"
+row 'no program in release/' '125 sancus: release/sancus is not there, or may not be run' "$? $(grep release/ <<<"$said")"
 lines='sancus: release/RELEASE is not exactly its lines'
 for edit in 1d 2d 3d 4d 5d 6d 7d '$a more' '1s/.*/version /' '3s/.$//' '3h;3d;4G' '$s/$/ /'; do
     fresh
@@ -170,6 +170,15 @@ mkdir other
 printf '%s\n' '#!/bin/sh' 'echo Linux aarch64' >other/uname
 chmod +x other/uname
 PATH=$room/other:$PATH stays 'another machine' "$absent"$'\n''sancus: release/sancus runs on Linux on x86-64 alone'
+
+fresh
+chmod -x c/release/sancus
+stays 'a program without its right to run' "$absent"$'\n''sancus: release/sancus is not there, or may not be run'
+fresh
+old c/crates/lab_main/src/main.rt '// more'
+runs 'a source of the second program alone'
+said=$(c/sancus-lab 2>&1)
+row 'and the second one' '125 sancus-lab: release/sancus-lab is of other sources than these' "$? $(grep other <<<"$said")"
 
 # ---- the program that was built
 build() { c/build "${more[@]}" >said 2>&1; }
@@ -252,7 +261,7 @@ gives 'standard output closed' '7 ' sh -c "c/sancus image $first - 4 >&-"
 PATH=$room/bin:$bare
 fresh
 rm c/release/sancus
-unproved="$absent"$'\n''sancus: release/sancus is not there, or cannot be read'$'\n''sancus: this answer is of an unproved build of the same sources; ./build proves and builds the program'
+unproved="$absent"$'\n''sancus: release/sancus is not there, or may not be run'$'\n''sancus: this answer is of an unproved build of the same sources; ./build proves and builds the program'
 gives 'no program, but the kit' "0 $unproved"$'\n'"image $room/$first - 4" c/sancus image $first - 4 2>&1
 mkdir tmp
 TMPDIR=$room/tmp c/sancus image $first - 4 >/dev/null 2>&1
