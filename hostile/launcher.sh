@@ -130,13 +130,14 @@ fresh
 rm c/release/verify
 said=$(c/sancus image c/examples/first.img - 4 2>&1)
 row 'no release/verify' 125 "$?"
-if [ "$(id -u)" = 0 ]; then
-    fresh
-    chmod -R a+rX "$room" && chmod 700 c/crates/texts/specs
-    nobody=$(setpriv --reuid 65534 --clear-groups c/sancus image c/examples/first.img - 4 2>&1)
-    row 'a folder that may not be read' 125 "$?"
-    row 'and its reason' 1 "$(grep -c 'sancus: .*crates/texts/specs' <<<"$nobody")"
-fi
+fresh
+as_other=()
+[ "$(id -u)" != 0 ] || as_other=(setpriv --reuid 65534 --clear-groups)
+chmod -R a+rX "$room" && chmod 000 c/crates/texts/specs
+said=$("${as_other[@]}" c/sancus image c/examples/first.img - 4 2>&1)
+row 'a folder that may not be read' 125 "$?"
+row 'and its reason' 1 "$(grep -c 'sancus: .*crates/texts/specs' <<<"$said")"
+chmod 755 c/crates/texts/specs
 
 checksum='sancus: checksum of release/sancus is not that of release/RELEASE'
 fresh
