@@ -1,0 +1,1 @@
+"""The proved Sancus/MSP430 machine in Python."""
