@@ -3,11 +3,17 @@ from __future__ import annotations
 
 import os
 import re
-from collections.abc import Iterable
+from collections.abc import Iterable, Sequence
 from dataclasses import dataclass, field, replace
 
 from .lines import WORD, Lines, load, rising
 from .maps import Map
+from .program import Word, call
+from .schedule import Schedule
+from .steps import Steps
+from .terms import Arms, Terms
+from .trace import Trace
+from .verdict import Verdict
 
 SIZE, FIRST, VECTORS, RESET, ROW = 0x10000, 0x0200, 0xFFE0, 0xFFFE, 16
 
@@ -118,3 +124,89 @@ class Image:
                 start = runs.pop().start if runs and runs[-1].stop == n else n
                 runs.append(range(start, n + 1))
         return runs
+
+    def run(self, schedule: Schedule | None = None, cycles: int = 1000) -> Trace:
+        """The trace of so many cycles. A machine that stopped by a rule is an answer: see `Trace.stopped`."""
+        return Trace(call("image", self._file, given(schedule), cycles, takes=(0, 3)).decode("ascii"))
+
+    def steps(self, schedule: Schedule | None = None, cycles: int = 1000) -> Steps:
+        """Each instruction of so many cycles, inside modules too."""
+        return Steps(call("steps", self._file, given(schedule), cycles, lab=True, takes=(0, 3)).decode("ascii"))
+
+    def monitor(self, script: str, schedule: Schedule | None = None) -> list[str]:
+        """The lines that the monitor answers to a script."""
+        return call("monitor", self._file, given(schedule), script.encode("ascii"), takes=(0, 3)).decode("ascii").splitlines()
+
+    def dis(self, start: int, end: int) -> list[str]:
+        """The lines of the listing of these addresses."""
+        return call("dis", self._file, f"{start:04x}", f"{end:04x}").decode("ascii").splitlines()
+
+    def check(self, module: int = 1) -> Verdict:
+        """Whether the registers and the time of a module keep its data."""
+        return self._judged("check", module)
+
+    def balance(self, module: int, arms: Arms) -> Verdict:
+        """The same with certificates of branches whose arms take equal times."""
+        return self._judged("balance", module, given(arms))
+
+    def released(self, module: int, terms: Terms, arms: Arms | None = None) -> Verdict:
+        """Whether a module tells nothing of its data but its answers."""
+        return self._judged("released", module, terms.text.encode(), given(arms), lab=True)
+
+    def unroll(self, module: int, terms: Terms, arms: Arms | None = None, steps: int | None = None) -> Verdict:
+        """The same, found by following all paths for at most so many steps; `sancus.program.commands` says whether it is there."""
+        more: list[Word] = [given(arms)] if arms or steps is None else []
+        return self._judged("unroll", module, terms.text.encode(), *more, *([] if steps is None else ["--steps", steps]), lab=True)
+
+    def keys(self, module: int) -> tuple[bytes, bytes]:
+        """The key of a module's vendor, and the module's own, 16 bytes each."""
+        said = call("key", self._file, module).decode("ascii").split()
+        return bytes.fromhex(said[1]), bytes.fromhex(said[3])
+
+    def vendor(self, module: int, provider: bytes, challenges: Challenges, trace: Trace) -> list[str]:
+        """What the vendor finds of each challenge in a trace: genuine, wrong or missing. `provider` is the vendor's key."""
+        told = challenge_rows(challenges).encode()
+        said = call("vendor", self._file, module, provider.hex(), told, trace.text.encode(), takes=(0, 9)).decode("ascii")
+        return [line.split(" ")[1] for line in said.splitlines()]
+
+    @property
+    def _file(self) -> bytes:
+        return self.text.encode()
+
+    def _judged(self, command: str, module: int, *more: Word, lab: bool = False) -> Verdict:
+        takes = (0, 3, 9) if command == "unroll" else (0, 9)
+        return Verdict.parse(call(command, self._file, module, *more, lab=lab, takes=takes).decode("ascii"))
+
+
+Challenges = Sequence[tuple[int, bytes]]
+"""Of each challenge the cycle of its first byte, and its nonce of 16 bytes; a challenge comes 1,600 cycles after the last."""
+
+
+def challenge_rows(challenges: Challenges) -> str:
+    """The text of challenges."""
+    return "".join(f"{cycle} {nonce.hex()}\n" for cycle, nonce in challenges)
+
+
+def attest(challenges: Challenges) -> Schedule:
+    """The schedule that sends challenges over the serial line, a byte each 100 cycles."""
+    return Schedule.parse(call("challenge", challenge_rows(challenges).encode()).decode("ascii"))
+
+
+def link(layout: str | os.PathLike[str], objects: Sequence[str | os.PathLike[str]]) -> Image:
+    """The linked image, with its map. NoLink is raised where the objects do not link, BadFile for a file."""
+    image = Image.parse(call("link", layout, *objects).decode("ascii"))
+    return replace(image, map=Map.parse(call("map", layout, *objects, lab=True).decode("ascii")))
+
+
+def assemble(source: str | os.PathLike[str], target: str | os.PathLike[str] | None = None) -> bytes:
+    """The ELF object of a source's file, which is written to the target too where that is named."""
+    made = call("asm", source)
+    if target is not None:
+        with open(target, "wb") as file:
+            file.write(made)
+    return made
+
+
+def given(what: Schedule | Arms | None) -> Word:
+    """The word for a text that may be left out."""
+    return what.text.encode() if what is not None and what.text else "-"
