@@ -21,6 +21,11 @@ from .terms import Arms, Terms
 from .trace import Close, End, Enter, Event, Handler, Hide, Irq, Leave, Out, Protect, Resume, Reti, Stop, Trace
 from .verdict import Verdict
 
-__all__ = [name for name in dir() if name[0] != "_" and name[0].isupper()] + [
-    "assemble", "attest", "find", "hunt", "latency", "link", "sweep"]
+__all__ = [
+    "Access", "Arms", "Attack", "BadFile", "Close", "Damaged", "Died", "End", "Enter", "Event", "Found", "Handler",
+    "Hide", "Hunted", "Image", "Irq", "Layout", "Leave", "Map", "Module", "NoLink", "NoMemory", "OtherProgram", "Out",
+    "Plan", "ProgramMissing", "Protect", "Refused", "Results", "Resume", "Reti", "SancusError", "Schedule",
+    "SchedulerLost", "Step", "Steps", "Stop", "Symbol", "Target", "Terms", "Trace", "Verdict", "assemble", "attest",
+    "find", "hunt", "latency", "link", "sweep",
+]
 __version__ = "1.5.5"

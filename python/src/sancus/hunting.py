@@ -6,16 +6,13 @@ import os
 from collections.abc import Iterable, Iterator
 from dataclasses import dataclass, field
 from itertools import islice
-from typing import TYPE_CHECKING, Any
+from typing import Any
 
 from .attack import BEFORE, BEHIND, CALL_BEGINS, Attack, Plan, Target, plans_of
-from .pool import Progress, retried, same_program, spread
+from .pool import Client, Progress, retried, same_program, spread
 from .program import program_digest
 from .store import Of, Row, Store
 from .sweeping import sha
-
-if TYPE_CHECKING:
-    from distributed import Client
 
 
 @dataclass(frozen=True)
@@ -31,13 +28,13 @@ class Found:
 
 @dataclass
 class Hunted:
-    """What a hunt tried on a target: the attack, the span of cycles, the plans, and those that tell secrets apart."""
+    """What a hunt tried on a target: the attack, the span of cycles, the plans in their order, and those that tell secrets apart."""
 
     target: Target
     attack: Attack
     first: int
     last: int
-    plans: int = 0
+    plans: list[Plan] = field(default_factory=list)
     found: list[Found] = field(default_factory=list)
 
     def __bool__(self) -> bool:
@@ -64,11 +61,11 @@ def work(attack: Attack, image: str, plans: list[Plan], cycles: int, program: st
 def found_of(row: Row) -> Found | None:
     """What a row found."""
     told: Any = json.loads(row.observed)
-    return None if told is None else Found(Plan(*json.loads(row.schedule)), told[0], told[1], tuple(told[2]))
+    return None if told is None else Found(Plan(*json.loads(row.schedule)), told[0], told[1], (told[2][0], told[2][1]))
 
 
 def hunt(targets: Iterable[Target], *, single: bool = False, handler: str | None = None, first: bool = False, cycles: int = 500,
-         client: Client | None = None, jobs: int | None = None, batch: int = 16, store: str | os.PathLike[str] = ":memory:",
+         client: Client = None, jobs: int | None = None, batch: int = 16, store: str | os.PathLike[str] = ":memory:",
          progress: bool | None = None) -> list[Hunted]:
     """Attacks each target: an interrupt in each cycle of its call, by line and by timer, alone and in pairs.
 
@@ -78,7 +75,7 @@ def hunt(targets: Iterable[Target], *, single: bool = False, handler: str | None
     return [one_target(target, (single, handler), first, cycles, client, jobs, batch, Store(store), progress) for target in targets]
 
 
-def one_target(target: Target, ways: tuple[bool, str | None], first: bool, most: int, client: Client | None, jobs: int | None,
+def one_target(target: Target, ways: tuple[bool, str | None], first: bool, most: int, client: Client, jobs: int | None,
                batch: int, store: Store, progress: bool | None) -> Hunted:
     """The hunt on one target."""
     attack = Attack.of(target)
@@ -93,16 +90,13 @@ def one_target(target: Target, ways: tuple[bool, str | None], first: bool, most:
         while some := list(islice(plans, batch)):
             yield attack, image, some, over, of.program
 
-    for rows in spread(work, tasks(), client, jobs):
-        store.put(of, rows)
-        told.add(len(rows))
-        if first and any(found_of(row) for row in rows):
+    for made in spread(work, tasks(), client, jobs):
+        store.put(of, made)
+        told.add(len(made))
+        if first and any(found_of(row) for row in made):
             break
     told.close()
-    wanted = set(plans_of(begin, last, *ways))
-    for row in store.rows(of, [image]):
-        if Plan(*json.loads(row.schedule)) in wanted:
-            done.plans += 1
-            found = found_of(row)
-            done.found += [found] if found else []
+    rows = {Plan(*json.loads(row.schedule)): row for row in store.rows(of, [image])}
+    done.plans = [plan for plan in plans_of(begin, last, *ways) if plan in rows]
+    done.found = [found for plan in done.plans if (found := found_of(rows[plan])) is not None]
     return done

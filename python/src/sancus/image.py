@@ -155,8 +155,9 @@ class Image:
 
     def unroll(self, module: int, terms: Terms, arms: Arms | None = None, steps: int | None = None) -> Verdict:
         """The same, found by following all paths for at most so many steps; `sancus.program.commands` says whether it is there."""
-        more: list[Word] = [given(arms)] if arms or steps is None else []
-        return self._judged("unroll", module, terms.text.encode(), *more, *([] if steps is None else ["--steps", steps]), lab=True)
+        more: list[Word] = [] if arms is None else [given(arms)]
+        more += [] if steps is None else ["--steps", steps]
+        return self._judged("unroll", module, terms.text.encode(), *more, lab=True)
 
     def keys(self, module: int) -> tuple[bytes, bytes]:
         """The key of a module's vendor, and the module's own, 16 bytes each."""

@@ -9,15 +9,15 @@ from collections import deque
 from collections.abc import Callable, Iterator
 from concurrent import futures
 from concurrent.futures.process import BrokenProcessPool
-from typing import TYPE_CHECKING, Any, TypeVar
+from typing import Any, TypeVar
 
 from .errors import Died, NoMemory, SancusError
 from .program import find, program_digest
 
-if TYPE_CHECKING:
-    from distributed import Client
-
-T, U = TypeVar("T"), TypeVar("U")
+Client = Any
+"""A dask.distributed Client, which has no types."""
+T = TypeVar("T")
+U = TypeVar("U")
 RETRIES = 3
 
 
@@ -29,7 +29,7 @@ class OtherProgram(SancusError):
     """A worker has another program than the caller."""
 
 
-def spread(work: Callable[..., U], tasks: Iterator[tuple[Any, ...]], client: Client | None, jobs: int | None) -> Iterator[U]:
+def spread(work: Callable[..., U], tasks: Iterator[tuple[Any, ...]], client: Client, jobs: int | None) -> Iterator[U]:
     """What `work` makes of each task, in any order. What a lost worker had is done again; few tasks are held at once."""
     if client is not None:
         return on_client(work, tasks, client)
@@ -69,14 +69,17 @@ def on_processes(work: Callable[..., U], tasks: Iterator[tuple[Any, ...]], jobs:
 def on_client(work: Callable[..., U], tasks: Iterator[tuple[Any, ...]], client: Client) -> Iterator[U]:
     """By a Client's workers; at most four tasks a thread are held."""
     import distributed
+    as_completed: Any = distributed.as_completed  # it has no types
     threads = max(1, sum(client.nthreads().values()))
 
     def send(some: int) -> list[Any]:
         return [client.submit(work, *task, pure=False, retries=RETRIES) for task in itertools.islice(tasks, some)]
 
     try:
-        held = distributed.as_completed(send(4 * threads), with_results=True)
+        held = as_completed(send(4 * threads), with_results=True)
         for future, result in held:
+            if future.cancelled():
+                raise futures.CancelledError
             future.release()
             held.update(send(1))
             yield result

@@ -23,7 +23,7 @@ def digest(path: str | os.PathLike[str]) -> str:
         return hashlib.file_digest(file, "sha256").hexdigest()
 
 
-def released(name: str) -> Path | None:
+def released(name: str) -> str | None:
     """The program in release/ of the clone that this package lies in, where its hash is that of SHA256SUMS; else None."""
     for top in Path(__file__).resolve().parents:
         sums = top / "release" / "SHA256SUMS"
@@ -32,7 +32,7 @@ def released(name: str) -> Path | None:
             path = sums.with_name(name)
             if wanted.get(name) != digest(path):
                 raise ProgramMissing(f"{path} is not the program that {sums} names")
-            return path
+            return str(path)
     return None
 
 
@@ -44,7 +44,7 @@ def find(name: str = "sancus") -> str:
     path = named or released(name) or shutil.which(name)
     if path is None or not os.access(path, os.X_OK) or not os.path.isfile(path):
         raise ProgramMissing(f"no {name}: set {variable}, or run ./build in the clone" if not named else f"{variable}={named} is no program")
-    return str(path)
+    return path
 
 
 @functools.cache

@@ -9,7 +9,7 @@ from collections.abc import Callable, Iterable, Iterator, Mapping
 from typing import TYPE_CHECKING, Union
 
 from .image import Image
-from .pool import Progress, retried, same_program, spread
+from .pool import Client, Progress, retried, same_program, spread
 from .program import call, program_digest
 from .schedule import Schedule
 from .store import Of, Row, Store
@@ -17,7 +17,6 @@ from .trace import Trace
 
 if TYPE_CHECKING:
     import pandas
-    from distributed import Client
 
 Scalar = Union[int, float, str, bool, None]
 Observe = Callable[[Trace, int], Mapping[str, Scalar]]
@@ -85,7 +84,7 @@ def batches(plans: Iterable[Plan], size: int) -> Iterator[list[Plan]]:
 
 
 def sweep(images: Mapping[str, Image], pulses: Iterable[int], *, limit: int, schedule: Callable[[int], Schedule] = pulse_of_line_0,
-          observe: Observe = latency, client: Client | None = None, jobs: int | None = None, batch: int = 64,
+          observe: Observe = latency, client: Client = None, jobs: int | None = None, batch: int = 64,
           store: str | os.PathLike[str] = ":memory:", progress: bool | None = None) -> Results:
     """Runs each image, for `limit` cycles, with the schedule of each pulse.
 

@@ -149,7 +149,7 @@ def checked(lines: Lines, events: list[Event], now: Event) -> None:
     before = events[-1] if events else None
     if isinstance(before, End):
         raise lines.error("a line behind the end of the trace")
-    if isinstance(now, End) and (now.registers is now.module is None) != isinstance(before, Stop):
+    if isinstance(now, End) and (now.registers is None and now.module is None) != isinstance(before, Stop):
         raise lines.error("a stop and its end do not stand together")
     if isinstance(before, Stop) and not isinstance(now, End):
         raise lines.error("a line between a stop and its end")
