@@ -103,6 +103,3 @@ class Drawn:
         for number in range(4, 16):
             self.words += [0x4300 | number] if self.rng.randrange(2) else [0x4030 | number, self.rng.randrange(0x10000)]
         self.words += [0x4031, 0x0600, 0xC032, 0x0107, 0x4030, back]
-
-    def certificates(self):
-        return "".join(f"{at:04x} {join:04x} {cycles}\n" for at, join, cycles in self.arms)

@@ -60,7 +60,12 @@ def test_it_goes_on(tmp_path: Path, monkeypatch: pytest.MonkeyPatch) -> None:
     first = in_file(path)
     results = sweep(images("plain"), range(20), limit=60, jobs=1, store=path)
     assert len(list(results)) == 40 and [row for row in in_file(path) if row[2] < 10] == first
-    monkeypatch.setattr("sancus.sweeping.spread", lambda work, tasks, client, jobs: iter([[]] if list(tasks) else []))
+
+    def none(work: Any, tasks: Iterator[Any], client: Any, jobs: Any) -> Iterator[Any]:
+        assert not list(tasks)
+        return iter(())
+
+    monkeypatch.setattr("sancus.sweeping.spread", none)
     assert len(list(sweep(images("plain"), range(20), limit=60, store=path))) == 40
 
 
@@ -97,7 +102,7 @@ def cluster() -> Iterator[Any]:
 
 def test_a_worker_that_is_killed(tmp_path: Path, plain: list[Any], cluster: Any) -> None:
     """The scheduler gives its tasks to others, and the rows are those of an undisturbed sweep."""
-    import distributed
+    distributed: Any = pytest.importorskip("distributed")
     path = tmp_path / "rows.sqlite"
     sweep({}, [], limit=120, store=path)
     with distributed.Client(cluster) as client:

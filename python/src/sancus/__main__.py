@@ -4,7 +4,7 @@ from __future__ import annotations
 import argparse
 import os
 
-from . import Arms, Image, Target, hunt, sweep
+from . import Arms, Hunted, Image, Target, hunt, sweep
 from .command import start
 from .pool import Client
 from .report import report
@@ -60,11 +60,11 @@ def target_of(words: argparse.Namespace) -> Target:
     return Target(images, words.module, code)
 
 
-def hunted(words: argparse.Namespace) -> tuple[list[str], bool]:
-    """The lines of a hunt, and whether secrets differ."""
+def hunted(words: argparse.Namespace) -> Hunted:
+    """The hunt that the words name."""
     found, = hunt([target_of(words)], single=words.single, handler=words.handler, first=words.first, cycles=words.cycles,
                   client=client_of(words), jobs=words.j, store=words.store)
-    return report(found, Arms.load(words.arms) if words.arms else None), bool(found)
+    return found
 
 
 def swept(words: argparse.Namespace) -> tuple[list[str], bool]:
@@ -81,7 +81,11 @@ def main(words: list[str]) -> int:
     """Status 1 says that some traces differ."""
     said = parser().parse_args(words)
     try:
-        lines, differ = (swept if said.command == "sweep" else hunted)(said)
+        if said.command == "sweep":
+            lines, differ = swept(said)
+        else:
+            found = hunted(said)
+            lines, differ = report(found, Arms.load(said.arms) if said.arms else None), bool(found)
     except ValueError as error:
         parser().error(str(error))
     print("\n".join(lines))
