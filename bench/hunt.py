@@ -47,7 +47,7 @@ def batches(plans):
 
 def spread_out(attack, plans, cycles, client, jobs):
     """Runs a second through the package."""
-    tasks = ((attack, attack.digest, some, cycles, program_digest()) for some in batches(plans))
+    tasks = ((attack, "attack", some, cycles, program_digest()) for some in batches(plans))
     begun = time.monotonic()
     runs = sum(len(rows) for rows in spread(work, tasks, client, jobs)) * len(attack.stood)
     return runs / (time.monotonic() - begun)

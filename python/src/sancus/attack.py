@@ -7,7 +7,8 @@ from dataclasses import dataclass, replace
 from typing import NamedTuple
 
 from .errors import SancusError
-from .image import FIRST, RESET, ROW, SIZE, VECTORS, Image, words
+from .image import FIRST, RESET, ROW, SIZE, VECTORS, Image, given, words
+from .program import call
 from .schedule import Schedule
 from .trace import Close, Leave, Trace
 
@@ -179,10 +180,10 @@ class Attack:
             made = made if plan.second is None else made.line(plan.second, True, 1)
         return made
 
-    def traces(self, plan: Plan, cycles: int) -> list[Trace]:
-        """The trace of each secret; `cycles` are those of the call alone."""
-        bound = cycles + 2 * (12 + length_of(plan.handler))
-        return [image.run(self.schedule(plan), bound) for image in self.images(plan)]
+    def runs(self, plan: Plan, cycles: int) -> list[bytes]:
+        """The text of each secret's trace; `cycles` are those of the call alone."""
+        bound, schedule = cycles + 2 * (12 + length_of(plan.handler)), given(self.schedule(plan))
+        return [call("image", image.text.encode(), schedule, bound, takes=(0, 3)) for image in self.images(plan)]
 
     def over(self, target: Target) -> int:
         """The last cycle in which the call of one of the secrets is over, where nothing interrupts it."""
@@ -190,8 +191,8 @@ class Attack:
             script = f"until {target.code[1]:04x} {LIMIT}\nregs\n"
             told = [image.monitor(script) for image in self.images(ALONE)]
             return max(int(line.split(" ")[1]) for lines in told for line in lines if line.startswith("regs "))
-        ends = [[one.cycle for one in trace if isinstance(one, (Leave, Close)) and one.module == target.module]
-                for trace in self.traces(ALONE, LIMIT)]
+        traces = [Trace(text.decode("ascii")) for text in self.runs(ALONE, LIMIT)]
+        ends = [[one.cycle for one in trace if isinstance(one, (Leave, Close)) and one.module == target.module] for trace in traces]
         return max(min(cycles, default=LIMIT) for cycles in ends)
 
 

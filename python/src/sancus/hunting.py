@@ -1,6 +1,7 @@
 """Hunts: one call, interrupted in every cycle, alone and in pairs, for a difference between secrets."""
 from __future__ import annotations
 
+import hashlib
 import json
 import os
 from collections.abc import Iterable, Iterator
@@ -12,7 +13,7 @@ from .attack import BEFORE, BEHIND, CALL_BEGINS, Attack, Plan, Target, plans_of
 from .pool import Client, Progress, retried, same_program, spread
 from .program import program_digest
 from .store import Of, Row, Store
-from .sweeping import sha
+from .trace import Trace
 
 
 @dataclass(frozen=True)
@@ -44,12 +45,15 @@ class Hunted:
 
 def judged(attack: Attack, plan: Plan, cycles: int) -> tuple[str, str]:
     """The SHA-256 of the first secret's trace, and as JSON what differs, or nothing."""
-    traces = retried(lambda: attack.traces(plan, cycles))
-    for secret, trace in enumerate(traces):
-        if (line := traces[0].difference(trace)) is not None:
-            rows = [(one.text.splitlines() + [""] * line)[line - 1] or "no more line" for one in (traces[0], trace)]
-            return sha(traces[0].text), json.dumps([secret, line, rows])
-    return sha(traces[0].text), "null"
+    texts = retried(lambda: attack.runs(plan, cycles))
+    digest = hashlib.sha256(texts[0]).hexdigest()
+    secret = next((n for n, text in enumerate(texts) if text != texts[0]), None)
+    if secret is None:
+        return digest, "null"
+    one, other = (Trace(texts[n].decode("ascii")) for n in (0, secret))
+    line = one.difference(other) or 0
+    rows = [(trace.text.splitlines() + [""] * line)[line - 1] or "no more line" for trace in (one, other)]
+    return digest, json.dumps([secret, line, rows])
 
 
 def work(attack: Attack, image: str, plans: list[Plan], cycles: int, program: str) -> list[Row]:

@@ -2,7 +2,6 @@
 from __future__ import annotations
 
 import os
-import re
 from collections.abc import Iterable, Sequence
 from dataclasses import dataclass, field, replace
 
@@ -16,6 +15,7 @@ from .trace import Trace
 from .verdict import Verdict
 
 SIZE, FIRST, VECTORS, RESET, ROW = 0x10000, 0x0200, 0xFFE0, 0xFFFE, 16
+ZEROS = bytes(1024)
 
 
 @dataclass(frozen=True)
@@ -34,8 +34,8 @@ def words(values: Iterable[int]) -> bytes:
 
 def filled_rows(memory: bytes | bytearray) -> list[int]:
     """The addresses of the rows of 16 bytes, from 0200 on, that are not all zero."""
-    rows = {found.start() & -ROW for found in re.finditer(rb"[^\0]", memory)}
-    return sorted(at for at in rows if at >= FIRST)
+    blocks = (block for block in range(0, SIZE, len(ZEROS)) if memory[block:block + len(ZEROS)] != ZEROS)
+    return [at for block in blocks for at in range(max(block, FIRST), block + len(ZEROS), ROW) if memory[at:at + ROW] != ZEROS[:ROW]]
 
 
 @dataclass(frozen=True)
