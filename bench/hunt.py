@@ -2,7 +2,7 @@
 """hunt.py [RUNS [WORKERS..]]: runs a second of a hunt: a plain loop, processes, and a LocalCluster.
 
 A run is one image under one plan. The plans are the first of the hunt on examples/channel's module, so many that RUNS (100,000)
-runs come of them, over and over; each arrangement takes RUNS runs, the plain loop a tenth of them. WORKERS are 1 2 4 where none is
+runs come of them, over and over; a LocalCluster takes RUNS runs, the plain loop and processes a tenth of them. WORKERS are 1 2 4 where none is
 given. The plain loop makes each image and schedule, writes both to files in /dev/shm and calls the program. A line for each: runs a
 second, and that as a part of workers times the plain loop. The overhead of a task is that of an empty one on the cluster."""
 import itertools
@@ -74,7 +74,7 @@ def main(words):
     one = plain_loop(attack, plans(runs // 10), over)
     print(f"plain loop: {one:.0f} runs a second", flush=True)
     for jobs in workers:
-        rate = spread_out(attack, plans(runs), over, None, jobs)
+        rate = spread_out(attack, plans(runs // 10), over, None, jobs)
         print(f"{jobs} processes: {rate:.0f} runs a second, {rate / jobs / one:.2f} of linear", flush=True)
         with distributed.LocalCluster(n_workers=jobs, threads_per_worker=1, dashboard_address=None) as cluster, \
                 distributed.Client(cluster) as client:
