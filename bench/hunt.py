@@ -13,7 +13,7 @@ import tempfile
 import time
 
 sys.path.insert(0, os.path.join(os.path.dirname(os.path.realpath(__file__)), "../python/src"))
-from sancus import Image, Target
+from sancus import Image, SancusError, Target
 from sancus.attack import BEFORE, BEHIND, CALL_BEGINS, Attack, length_of, plans_of
 from sancus.command import start
 from sancus.hunting import work
@@ -34,7 +34,9 @@ def plain_loop(attack, plans, cycles):
             for path, text in zip(words, (image.text, attack.schedule(plan).text)):
                 with open(path, "w", encoding="ascii") as file:
                     file.write(text)
-            subprocess.run([find(), "image", *words, str(cycles + 2 * (12 + length_of(plan.handler)))], capture_output=True, check=True)
+            done = subprocess.run([find(), "image", *words, str(cycles + 2 * (12 + length_of(plan.handler)))], capture_output=True)
+            if done.returncode not in (0, 3):
+                raise SancusError(done.stderr.decode())
             for path in words:
                 os.remove(path)
     return runs / (time.monotonic() - begun)
