@@ -2,7 +2,8 @@
 # Runs the commands of all pages, in their order: each line of the README, of docs/ and of the pages here that begins with `./sancus`,
 # `./sancus-lab` or a script of `tools/`, compared with the block of text after it, whose last line is `status N` where the command ends
 # with another status than 0; each `clang` line, compared with the object in the folder, and each `llvm-symbolizer` line, where clang 14
-# is there; the commands of the manuals, and the files of sancus(1) by the command beside each. Then it draws the figure again.
+# is there; the commands of the manuals, and the files of sancus(1) by the command beside each. Then it draws the figures again,
+# where matplotlib is there.
 #     examples/check.sh [PROGRAM [LAB]]
 # PROGRAM stands for ./sancus where it is given, LAB for ./sancus-lab. The last line is 'N commands, M differ, K not run';
 # where CI is `true`, none may be left out.
@@ -115,8 +116,15 @@ for object in examples/*/*.o examples/attacks/*/*.o; do
         printf '%s is another one than clang makes\n' "$object"
     }
 done
-examples/channel/draw.sh "$program" >got
-compare 'examples/channel/draw.sh' examples/channel/latency.svg
+if /usr/bin/python3 -c 'import matplotlib' 2>/dev/null; then
+    for folder in channel attacks/latency; do
+        SANCUS=$program SANCUS_LAB=$(readlink -f -- "$lab") "$here/$folder/draw.py" got.svg 2>got && mv got.svg got
+        compare "examples/$folder/draw.py" "examples/$folder/latency.svg"
+    done
+else
+    not_run=$((not_run + 2))
+    printf 'the figures were not drawn: there is no matplotlib\n'
+fi
 [ "$not_run" -eq 0 ] || printf 'the lines that begin with clang or llvm-symbolizer were not run: there is no clang 14\n'
 printf '%s commands, %s differ, %s not run\n' "$total" "$differ" "$not_run"
 [ "$differ" -eq 0 ] && [ "$total" -gt 0 ] && { [ "${CI-}" != true ] || [ "$not_run" -eq 0 ]; }
