@@ -9,7 +9,7 @@ room=$(mktemp -d) || exit 1
 trap 'rm -rf "$room"' EXIT
 cd "$here" || exit 1
 export PYTHONDONTWRITEBYTECODE=1
-WANTED=35
+WANTED=36
 
 # number WORD: of pytest's last line.
 number() {
