@@ -15,6 +15,7 @@ import sys
 import tempfile
 
 import machine
+from sancus.command import Usage, start
 
 COUNT, PART, START = 8000, 2000, 0x0200
 # Of each object that `asm` wrote, whether readelf reads it without a warning and ld.lld takes it.
@@ -146,7 +147,10 @@ def round_trip(program, folder, name, code):
     return same
 
 
-def main(program, objects):
+def main(words):
+    if not words:
+        raise Usage
+    program, *objects = words
     rng = random.Random(1)
     cases = [instruction(rng) for _ in range(COUNT)]
     wanted = assembler_bytes([theirs for _, theirs in cases])
@@ -164,4 +168,4 @@ def main(program, objects):
 
 
 if __name__ == "__main__":
-    sys.exit(main(sys.argv[1], sys.argv[2:]))
+    start(main, __doc__)

@@ -16,6 +16,7 @@ import sys
 import tempfile
 
 import machine
+from sancus.command import start
 
 PROLOGUE, TEST = 0x0200, 0x8000
 RESERVED = [range(0x0000, 0x0280), range(TEST - 0x20, TEST + 0x40), range(0xFF00, 0x10000)]
@@ -249,10 +250,10 @@ def causes(case, form, what, mine, other):
     return [one] if one else kept or [f"NOT EXPLAINED: {what} of {name}{'.b' if byte else ''} {shown}"]
 
 
-def main():
-    program = sys.argv[1] if len(sys.argv) > 1 else machine.BUILT
-    count = int(sys.argv[2]) if len(sys.argv) > 2 else 2000
-    rng = random.Random(int(sys.argv[3]) if len(sys.argv) > 3 else 1)
+def main(words):
+    program = words[0] if words else machine.BUILT
+    count = int(words[1]) if len(words) > 1 else 2000
+    rng = random.Random(int(words[2]) if len(words) > 2 else 1)
     cases = []
     while len(cases) < count:
         case = Case(rng)
@@ -285,4 +286,4 @@ def main():
 
 
 if __name__ == "__main__":
-    sys.exit(main())
+    start(main, __doc__)

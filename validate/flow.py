@@ -13,6 +13,7 @@ import sys
 import tempfile
 
 import machine
+from sancus.command import start
 
 TEXT, DATA, DATA_END, OUTSIDE, HANDLER, STACK = 0x0300, 0x0400, 0x0420, 0x0214, 0x0500, 0x0600
 VECTOR_OF_LINE_0 = 0xFFE2
@@ -123,10 +124,10 @@ def runs_differ(program, folder, rng, words):
     return [told for told in (ends, traces) if told[0] != told[1]], ends[0][0].split(" ")[0]
 
 
-def main():
-    program = sys.argv[1] if len(sys.argv) > 1 else machine.BUILT
-    wanted = int(sys.argv[2]) if len(sys.argv) > 2 else 1000
-    rng = random.Random(int(sys.argv[3]) if len(sys.argv) > 3 else 1)
+def main(words):
+    program = words[0] if words else machine.BUILT
+    wanted = int(words[1]) if len(words) > 1 else 1000
+    rng = random.Random(int(words[2]) if len(words) > 2 else 1)
     tried, accepted, certified, wrong, ended = 0, 0, 0, [], {}
     with tempfile.TemporaryDirectory() as folder:
         while accepted < wanted:
@@ -152,4 +153,4 @@ def main():
 
 
 if __name__ == "__main__":
-    sys.exit(main())
+    start(main, __doc__)

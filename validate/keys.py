@@ -9,12 +9,13 @@ first, under the vendor's.
 """
 import os
 import random
-import re
 import subprocess
 import sys
 import tempfile
 
 import machine
+from sancus.command import start
+from sancus.trace import Trace
 
 TOP = os.path.join(os.path.dirname(os.path.abspath(__file__)), "..")
 
@@ -61,7 +62,7 @@ def tag_cases(program, folder):
     with open(schedule, "w", encoding="ascii") as it:
         it.write(machine.run([program, "challenge", example("challenges.txt")])[0])
     trace, _, _ = machine.run([program, "image", example("tagger.img"), schedule, "9500"])
-    sent = bytes(int(it, 16) for it in re.findall(r"^\d+ out ([0-9a-f]{2})$", trace, re.M))
+    sent = Trace(trace).sent
     key = bytes.fromhex(machine.run([program, "key", example("tagger.img"), "1"])[0].split()[3])
     with open(example("challenges.txt"), encoding="ascii") as it:
         nonces = [bytes.fromhex(line.split()[1]) for line in it]
@@ -69,9 +70,9 @@ def tag_cases(program, folder):
     return len(nonces), wrong
 
 
-def main():
-    program = sys.argv[1] if len(sys.argv) > 1 else machine.BUILT
-    count = int(sys.argv[2]) if len(sys.argv) > 2 else 200
+def main(words):
+    program = words[0] if words else machine.BUILT
+    count = int(words[1]) if len(words) > 1 else 200
     with tempfile.TemporaryDirectory() as folder:
         keys, wrong_keys = key_cases(program, folder, random.Random(1), count)
         tags, wrong_tags = tag_cases(program, folder)
@@ -83,4 +84,4 @@ def main():
 
 
 if __name__ == "__main__":
-    sys.exit(main())
+    start(main, __doc__)

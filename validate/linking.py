@@ -14,6 +14,9 @@ import sys
 import tempfile
 
 import machine
+from sancus.command import start
+from sancus.elf import ALLOC, EXECUTABLE, PROGBITS, Elf
+from sancus.image import Image
 
 sys.path.insert(0, os.path.join(os.path.dirname(os.path.abspath(__file__)), "..", "bench"))
 import elf430  # noqa: E402
@@ -119,26 +122,22 @@ ENTRY(start)
 
 def linked_memory(text):
     """The memory of an image's text."""
-    memory = bytearray(machine.MEMORY)
-    for at, row in re.findall(r"^at ([0-9a-f]{4}) ([0-9a-f]{32})$", text, re.M):
-        memory[int(at, 16) : int(at, 16) + 16] = bytes.fromhex(row)
-    return memory
+    return Image.parse(text).memory
 
 
 def elf_memory(data):
     """The memory of an executable's loaded sections."""
-    memory, (offset,), (count,) = bytearray(machine.MEMORY), struct.unpack_from("<I", data, 32), struct.unpack_from("<H", data, 48)
-    for k in range(count):
-        _, kind, flags, addr, place, size, *_ = struct.unpack_from("<10I", data, offset + 40 * k)
-        if flags & elf430.ALLOC and kind == elf430.PROGBITS:
-            memory[addr : addr + size] = data[place : place + size]
-    return memory
+    memory, found = bytearray(machine.MEMORY), Elf(data, EXECUTABLE)
+    for index, section in enumerate(found.sections):
+        if section.flags & ALLOC and section.kind == PROGBITS:
+            memory[section.address : section.address + section.size] = found.content(index)
+    return bytes(memory)
 
 
-def main():
-    program = sys.argv[1] if len(sys.argv) > 1 else machine.BUILT
-    count = int(sys.argv[2]) if len(sys.argv) > 2 else 300
-    rng, both_refuse, linked, wrong = random.Random(int(sys.argv[3]) if len(sys.argv) > 3 else 1), 0, 0, []
+def main(words):
+    program = words[0] if words else machine.BUILT
+    count = int(words[1]) if len(words) > 1 else 300
+    rng, both_refuse, linked, wrong = random.Random(int(words[2]) if len(words) > 2 else 1), 0, 0, []
     with tempfile.TemporaryDirectory() as folder:
         path = lambda name: os.path.join(folder, name)
         with open(path("layout.toml"), "w", encoding="ascii") as it:
@@ -174,4 +173,4 @@ def main():
 
 
 if __name__ == "__main__":
-    sys.exit(main())
+    start(main, __doc__)

@@ -1,26 +1,26 @@
 """Images for `sancus`, and runs of it and of the tools it is held against. Needs Python 3 alone."""
 import os
-import re
 import subprocess
+import sys
+
+HERE = os.path.dirname(os.path.realpath(__file__))
+sys.path.insert(0, os.path.join(HERE, "../python/src"))
+from sancus.image import RESET as RESET_VECTOR  # noqa: F401
+from sancus.image import SIZE as MEMORY  # noqa: F401
+from sancus.image import Image, Module
 
 # What the scripts take for PROGRAM where none is named: the program that was built here.
-BUILT = os.path.join(os.path.dirname(os.path.abspath(__file__)), "..", "crates", "sm_main", "out", "sm_main")
-
-MEMORY = 65536
-FIRST_ROW, RESET_VECTOR = 0x0200, 0xFFFE
+BUILT = os.path.join(HERE, "..", "crates", "sm_main", "out", "sm_main")
 
 
 def word_bytes(word):
-    return bytes((word & 0xFF, word >> 8))
+    return word.to_bytes(2, "little")
 
 
 def image_text(memory, key=bytes(16), handler=0, modules=()):
     """The text of an image without modules, or with rows (vendor, text start and end, data start and end)."""
-    lines = ["sancus-image 1", "key " + key.hex(), f"handler {handler:04x}"]
-    lines += ["module " + " ".join(f"{field:04x}" for field in row) for row in modules]
-    rows = {found.start() & ~15 for found in re.finditer(rb"[^\0]", memory)}
-    lines += [f"at {at:04x} {bytes(memory[at : at + 16]).hex()}" for at in sorted(rows) if at >= FIRST_ROW]
-    return "\n".join([*lines, "end", ""])
+    rows = tuple(Module(vendor, range(*row[:2]), range(*row[2:])) for vendor, *row in modules)
+    return Image(1, key, handler, rows, bytes(memory)).text
 
 
 def run(words, name=None, text=None, **more):

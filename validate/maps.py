@@ -11,6 +11,9 @@ import subprocess
 import sys
 import tempfile
 
+import machine  # noqa: F401, which finds the package
+from sancus.command import Usage, start
+
 TOP = pathlib.Path(__file__).resolve().parent.parent
 EXAMPLES = {"c": ["meter"], "c_check": ["vault"], "c_devices": ["devices"], "c_modules": ["shop"], "c_units": ["units"],
             "runtime": ["product", "runtime"]}
@@ -42,7 +45,7 @@ def compared(room, sancus, lab, words):
 
 def main(words):
     if len(words) != 2:
-        raise SystemExit(__doc__)
+        raise Usage
     cases = differ = 0
     with tempfile.TemporaryDirectory() as place:
         room = pathlib.Path(place)
@@ -56,4 +59,4 @@ def main(words):
     return differ > 0
 
 
-sys.exit(main(sys.argv[1:]))
+start(main, __doc__)

@@ -14,6 +14,8 @@ import tempfile
 
 import linking
 import machine
+from sancus.command import start
+from sancus.trace import Trace
 
 FOLDER = os.path.join(os.path.dirname(os.path.abspath(__file__)), "programs")
 PROGRAMS = ["crc", "fixed", "sha256", "sort"]
@@ -67,8 +69,8 @@ def ours(program, folder, built, done):
     layout = os.path.join(folder, "layout.toml")
     image = machine.run([program, "link", layout, *built])[0]
     trace, _, err = machine.run([program, "run", layout, "-", str(CYCLES), *built])
-    found = re.search(r"^end \d+ outside((?: [0-9a-f]{4}){16})$", trace, re.M)
-    words = [int(it, 16) for it in found[1].split()][4:12] if found else err or trace
+    registers = None if err else Trace(trace).end.registers
+    words = list(registers[4:12]) if registers else err or trace
     pieces = [f"mem {at:04x} {PIECE}" for at in range(*linking.DATA, PIECE)]
     script = write(folder, "script.txt", "\n".join([f"until {done:04x} {CYCLES}", *pieces, ""]))
     said, _, err = machine.run([program, "monitor", write(folder, "linked.img", image), "-", script])
@@ -105,8 +107,8 @@ def differences(program, folder, name, level):
     return found
 
 
-def main():
-    program, cases, wrong = sys.argv[1] if len(sys.argv) > 1 else machine.BUILT, 0, []
+def main(words):
+    program, cases, wrong = words[0] if words else machine.BUILT, 0, []
     with tempfile.TemporaryDirectory() as folder:
         write(folder, "layout.toml", linking.LAYOUT)
         write(folder, "script.ld", linking.SCRIPT.replace("*(.text*)", "*(.text* .rodata*)"))
@@ -123,4 +125,4 @@ def main():
 
 
 if __name__ == "__main__":
-    sys.exit(main())
+    start(main, __doc__)

@@ -10,17 +10,17 @@ and one pair is run. Needs Python 3 alone.
 """
 import os
 import random
-import re
 import sys
 import tempfile
 
 import flow
 import machine
+from sancus.command import Usage, start
+from sancus.steps import Steps
+from sancus.trace import Close, Leave
 
 REGISTERS = [1, 2, *range(4, 16)]
 CALLS = 10
-STEP = re.compile(r"(\d+) \d+ ([0-9a-f]{4}): ((?:(?!dadd |addc )[0-9a-f]{4} )+)")
-END = re.compile(r"(\d+) (?:leave 1 pc [0-9a-f]{4}|close 1)$")
 
 
 def terms_of(rng):
@@ -51,20 +51,21 @@ def but(answers, end):
     return words
 
 
-def ends_of(steps):
-    """The trace's lines before each end of a call of module 1, and its line with the registers before it."""
-    core, lines, ends = [0] * 16, [], []
-    for line in steps.splitlines():
-        if step := STEP.match(line):
-            core[0] = int(step[2], 16) + len(step[3]) // 5 * 2
-        elif line.startswith("  "):
-            for name, word in re.findall(r"r(\d+)=([0-9a-f]{4})", line):
-                core[int(name)] = int(word, 16)
-        else:
-            if END.match(line):
-                ends.append((list(lines), line, list(core)))
-            lines.append(line)
-    return ends, lines
+def ends_of(text):
+    """The events before each end of a call of module 1, its event with the registers before it; and all events."""
+    steps, core, ends = Steps(text), [0] * 16, []
+    changes = sorted([(step.cycle, 1, step) for step in steps] + [(cycle, 0, changed) for cycle, changed in steps.arrivals.items()],
+                     key=lambda one: one[:2])
+    for at, event in enumerate(steps.trace.events):
+        while changes and changes[0][0] < event.cycle:
+            _, is_step, one = changes.pop(0)
+            if is_step:
+                core[0] = one.pc + 2 * len(one.words)
+            for number, word in (one.changed if is_step else one).items():
+                core[number] = word
+        if isinstance(event, (Leave, Close)) and event.module == 1:
+            ends.append((steps.trace.events[:at], event, list(core)))
+    return ends, steps.trace.events
 
 
 def runs_differ(one, other, answers):
@@ -86,10 +87,12 @@ def calls_differ(program, folder, words, answers, public, rng):
     return [(words, answers, public, calls)] if but(answers, calls[0]) != but(answers, calls[1]) else []
 
 
-def main():
-    program, lab = sys.argv[1], sys.argv[2]
-    wanted = int(sys.argv[3]) if len(sys.argv) > 3 else 1000
-    rng = random.Random(int(sys.argv[4]) if len(sys.argv) > 4 else 1)
+def main(words):
+    if len(words) < 2:
+        raise Usage
+    program, lab = words[0], words[1]
+    wanted = int(words[2]) if len(words) > 2 else 1000
+    rng = random.Random(int(words[3]) if len(words) > 3 else 1)
     tried, accepted, refused_before, wrong, cut = 0, 0, 0, [], 0
     with tempfile.TemporaryDirectory() as folder:
         arms_path, terms_path, schedule_path = (os.path.join(folder, name) for name in ("arms", "terms", "schedule"))
@@ -125,4 +128,4 @@ def main():
 
 
 if __name__ == "__main__":
-    sys.exit(main())
+    start(main, __doc__)

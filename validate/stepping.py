@@ -6,6 +6,7 @@
 SANCUS and SANCUS_LAB are the built programs. Needs Debian's clang, lld and mspdebug. The first STEPS (1000) instructions of each program at
 each level are compared, registers 0 to 15 after each.
 """
+import itertools
 import re
 import sys
 import tempfile
@@ -13,35 +14,22 @@ import tempfile
 import linking
 import machine
 import programs
+from sancus.command import Usage, start
+from sancus.steps import Steps
 
 SR_BITS = 0x1FF
-BEGINS = re.compile(r"^\d+ \d+ ([0-9a-f]{4}): (.*)$")
-CHANGED = re.compile(r" r(\d+)=([0-9a-f]{4})")
-NAME = re.compile(r"(mov|addc?|subc?|cmp|dadd|bit|bic|bis|xor|and|rrc|swpb|rra|sxt|push|call)(\.b)?$|j[a-z]+$|reti$|unit$")
-
-
-def words_of(shown):
-    """How many words stand before an instruction's text, which may begin with `addc` or `dadd`."""
-    tokens = shown.split()
-    count = next(at for at, token in enumerate(tokens) if not re.fullmatch("[0-9a-f]{4}", token))
-    return count if NAME.match(tokens[count]) else count - 1
 
 
 def ours(lab, image, steps):
     """All registers after each instruction, as the lines tell them."""
     told, _, err = machine.run([lab, "steps", image, "-", str(6 * steps)])
     regs, found = [0] * 16, []
-    for line in told.splitlines():
-        begins = BEGINS.match(line)
-        if begins:
-            if len(found) == steps:
-                break
-            regs = list(regs)
-            regs[0] = int(begins[1], 16) + 2 * words_of(begins[2]) & 0xFFFF
-            found.append(regs)
-        elif line.startswith("  r") and "=" in line:
-            for number, value in CHANGED.findall(line):
-                regs[int(number)] = int(value, 16)
+    for step in itertools.islice(Steps(told) if told else (), steps):
+        regs = list(regs)
+        regs[0] = step.pc + 2 * len(step.words) & 0xFFFF
+        for number, value in step.changed.items():
+            regs[number] = value
+        found.append(regs)
     if len(found) < steps:
         sys.exit(err or "too few instructions")
     return found
@@ -76,9 +64,11 @@ def first_difference(mine, other):
     return None if len(mine) == len(other) else (len(other), [], [])
 
 
-def main():
-    sancus, lab = sys.argv[1:3]
-    steps, cases, wrong = int(sys.argv[3]) if len(sys.argv) > 3 else 1000, 0, []
+def main(words):
+    if len(words) < 2:
+        raise Usage
+    sancus, lab = words[:2]
+    steps, cases, wrong = int(words[2]) if len(words) > 2 else 1000, 0, []
     with tempfile.TemporaryDirectory() as folder:
         layout = programs.write(folder, "layout.toml", linking.LAYOUT)
         for name in programs.PROGRAMS:
@@ -96,4 +86,4 @@ def main():
 
 
 if __name__ == "__main__":
-    sys.exit(main())
+    start(main, __doc__)

@@ -19,6 +19,7 @@ import tempfile
 import flow
 import machine
 import released
+from sancus.command import Usage, start
 
 ANSWERS = pathlib.Path(__file__).resolve().parent.parent / "examples" / "answers"
 IMMEDIATE, ABSOLUTE, INDIRECT = 3, 1, 2
@@ -230,10 +231,12 @@ def count(counts, case, told):
     counts["proper"] += 0 < words < len(case.public) or answers > 0
 
 
-def main():
-    program, lab = sys.argv[1], sys.argv[2]
-    wanted = int(sys.argv[3]) if len(sys.argv) > 3 else 3000
-    rng = random.Random(int(sys.argv[4]) if len(sys.argv) > 4 else 1)
+def main(words):
+    if len(words) < 2:
+        raise Usage
+    program, lab = words[0], words[1]
+    wanted = int(words[2]) if len(words) > 2 else 3000
+    rng = random.Random(int(words[3]) if len(words) > 3 else 1)
     counts, firsts, found, unexplained = collections.Counter(), collections.Counter(), collections.Counter(), 0
     randoms = ((None, random_case(rng)) for _ in range(wanted))
     with tempfile.TemporaryDirectory() as folder:
@@ -259,4 +262,4 @@ def main():
 
 
 if __name__ == "__main__":
-    sys.exit(main())
+    start(main, __doc__)

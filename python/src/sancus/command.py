@@ -2,6 +2,7 @@
 from __future__ import annotations
 
 import os
+import subprocess
 import sys
 from collections.abc import Callable, Iterable
 from typing import NoReturn
@@ -24,10 +25,11 @@ def start(main: Callable[[list[str]], int | bool | None], usage: str | None = No
         os.dup2(os.open(os.devnull, os.O_WRONLY), sys.stdout.fileno())
         status = 141
     except Usage:
-        status = told(f"usage: {(usage or '').strip().splitlines()[0]}")
+        lines = (usage or "").strip().splitlines()
+        status = told(f"usage: {next((line for line in lines if line.startswith('    ')), lines[0] if lines else name)}")
     except OSError as error:
         status = told(f"{name}: {error.filename or 'a file'}: {error.strerror or error}")
-    except (SancusError, UnicodeError) as error:
+    except (SancusError, ValueError, subprocess.SubprocessError) as error:
         status = told(f"{name}: {error}")
     sys.exit(status)
 
