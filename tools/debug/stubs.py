@@ -6,7 +6,7 @@ import struct
 STACK, POPPED, REFUSED, SIZE = 0x20, 0x2A, 0x48, 0x4C  # places in the code, by what was done before them
 PC, SP, R7 = 0, 1, 7
 ADVANCE, DEF_CFA, DEF_CFA_EXPRESSION, REGISTER, VAL_EXPRESSION, REMEMBER, RESTORE = 0x40, 0x0C, 0x0F, 0x09, 0x16, 0x0A, 0x0B
-OP_ADDR, OP_DEREF_SIZE = 0x03, 0x94
+OP_CONST2U, OP_DEREF_SIZE = 0x0A, 0x94  # not DW_OP_addr: debuggers differ in its size
 
 
 def entries(told):
@@ -19,7 +19,7 @@ def entries(told):
 
 def word_at(address):
     """An expression: the word in memory there."""
-    return struct.pack("<BBIBB", 7, OP_ADDR, address, OP_DEREF_SIZE, 2)
+    return struct.pack("<BBHBB", 5, OP_CONST2U, address, OP_DEREF_SIZE, 2)
 
 
 def padded(body):
