@@ -46,8 +46,10 @@ class Client:
 
     def command(self, text):
         """What `monitor` of gdb prints."""
-        body = self.ask("qRcmd," + text.encode().hex())
-        return "" if body == "OK" else bytes.fromhex(body).decode()
+        before = len(self.said)
+        self.ask("qRcmd," + text.encode().hex())
+        told, self.said = self.said[before:], self.said[:before]
+        return "\n".join(told)
 
     def registers(self):
         body = self.ask("g")

@@ -51,17 +51,16 @@ class Machine:
     def read(self, addr, size, outside):
         """Bytes from an address on, as many as can be told; none of devices, which no proved command shows."""
         size = max(0, min(size, 65536 - addr)) if addr >= MEMORY else 0
-        state = self.run.state
-        ends = next((a for a in range(addr, addr + size) if a in state.unknown), addr + size)
-        if not outside and ends == addr + size:
-            return bytes(state.memory[addr:ends])
-        got = b""
-        while len(got) < size:
-            part = self.ask([f"mem {addr + len(got):04x} {min(256, size - len(got))}"])
-            if part[4:6] != ": ":
-                break
-            got += bytes.fromhex(part[6:])
-        return got if outside or len(got) == size else bytes(state.memory[addr:ends])
+        state, wanted = self.run.state, range(addr, addr + size)
+        memory, unknown = (bytearray(65536), set(wanted)) if outside else (state.memory, state.unknown)
+        places = sorted({a & ~15 for a in wanted if a in unknown})
+        for line in self.ask([f"mem {place:04x} 16" for place in places]).splitlines() if places else []:
+            if line[4:6] == ": ":
+                place, data = int(line[:4], 16), bytes.fromhex(line[6:])
+                for a in unknown & set(range(place, place + len(data))):
+                    memory[a] = data[a - place]
+                unknown -= set(range(place, place + len(data)))
+        return bytes(memory[addr:next((a for a in wanted if a in unknown), addr + size)])
 
     def write(self, addr, data):
         """At the start alone: an image with other bytes is another image, which runs anew. Whether it was done."""
@@ -81,6 +80,7 @@ class Server:
     def __init__(self, machine, outside, names, sock):
         self.machine, self.outside, self.names, self.sock = machine, outside, names, sock
         self.search, self.buffer, self.acks, self.halted = Search(), b"", True, False
+        self.backwards = False  # for clients that have no command to go back
         self.width = 4  # bytes of a register: 4 for gdb, 2 for lldb
 
     @property
@@ -167,6 +167,8 @@ class Server:
 
     def leave_range(self, low, high):
         """Steps until the PC is out of a range, or something else is met."""
+        if self.backwards:
+            return self.step_back()
         run, at = self.run, None
         self.halted = False
         while at is None or low <= run.state.regs[0] < high:
@@ -200,7 +202,10 @@ class Server:
         if packet.startswith(("qHostInfo", "qProcessInfo")):
             return f"pid:1;triple:{b'msp430-unknown-unknown'.hex()};ptrsize:2;endian:little;"
         if packet.startswith("qRcmd,"):
-            return self.command(bytes.fromhex(packet[6:]).decode("ascii")).encode().hex() or "OK"
+            told = self.command(bytes.fromhex(packet[6:]).decode("ascii"))
+            if told:
+                self.send("O" + told.encode().hex())  # both debuggers print this as text
+            return "OK"
         if packet == "QThreadSuffixSupported":  # lldb alone asks this
             self.width = 2
         if packet in ("?", "qThreadStopInfo1"):
@@ -214,6 +219,8 @@ class Server:
         return self.KINDS[kind](self, packet) if kind else ""
 
     def step(self, _):
+        if self.backwards:
+            return self.step_back()
         there = self.run.forward()
         return self.reply("" if there else "replaylog:end;")
 
@@ -247,7 +254,7 @@ class Server:
         return "OK"
 
     KINDS = {
-        "sS": step, "cC": lambda self, _: self.go(), "g": lambda self, _: self.registers(),
+        "sS": step, "cC": lambda self, _: self.go_back() if self.backwards else self.go(), "g": lambda self, _: self.registers(),
         "r": lambda self, packet: self.leave_range(*(int(x, 16) for x in packet[1:].split(","))),
         "p": register, "m": memory, "M": write, "GPX": refuse, "Zz": point,
         "HT": lambda self, _: "OK"}
@@ -264,6 +271,9 @@ class Server:
             if wrong:
                 return f"no event of the trace: {wrong[0]}; there are {' '.join(EVENTS)}\n"
             self.search.events = set(words[1:])
+            return ""
+        if words[0] in ("reverse", "forward"):
+            self.backwards = words[0] == "reverse"
             return ""
         if words[0] == "seek":
             run.seek_cycle(int(words[1]))

@@ -1,0 +1,28 @@
+/* A module that adds up, and code outside with a mistake: `spy` reads the module's data. */
+#include "sancus.h"
+
+SM_BSS(vault) unsigned total;
+
+SM_FUNCTION(vault) unsigned put(unsigned amount)
+{
+    total += amount;
+    return total;
+}
+
+SM_START(0x0e00);
+
+volatile unsigned shown;
+
+__attribute__((noinline)) unsigned spy(const volatile unsigned *place)
+{
+    return *place;
+}
+
+int main(void)
+{
+    shown = SM_CALL(0x1000, 0, 5);
+    shown = SM_CALL(0x1000, 0, 7);
+    shown = spy((const unsigned *)0x1100);
+    for (;;)
+        ;
+}
