@@ -11,6 +11,7 @@ import shutil
 import subprocess
 import sys
 import tempfile
+from concurrent.futures import ThreadPoolExecutor
 
 sys.dont_write_bytecode = True
 HERE = os.path.dirname(os.path.realpath(__file__))
@@ -75,12 +76,12 @@ def moments(name, tools, image, schedule):
     """Drawn moments of one run: registers or the module by the monitor, and all memory that it shows."""
     trace = output(tools[0], "image", image, schedule, str(CYCLES)).decode()
     busy = {line.split()[0] for line in trace.splitlines()}
-    client = Client(image, schedule, "--cycles", str(CYCLES), *tools[2])
+    client, drawn = Client(image, schedule, "--cycles", str(CYCLES), *tools[2]), random.Random(name)
     client.ask("c")
     last = int(client.command("where").split()[-1])
     if " stop " in trace:
         check(f"{name}: the stop", client.said[-1].partition(": ")[2], re.search(r"^\d+ (stop .*)$", trace, re.M)[1])
-    for cycle in [0] + [random.randrange(1, CYCLES) for _ in range(4)] if last else []:
+    for cycle in [0] + [drawn.randrange(1, CYCLES) for _ in range(4)] if last else []:
         where = client.command(f"seek {cycle}").split()
         if where[2] == "stopped" or where[1] in busy:
             continue
@@ -93,13 +94,13 @@ def moments(name, tools, image, schedule):
         shown = [line for line in told[1:] if line[4:6] == ": "]
         got = [f"{a:04x}: {(client.memory(a, 256) or b'').hex()}" for a in (int(line[:4], 16) for line in shown)]
         check(f"{name}: memory in {where[1]}", got, shown)
-    back_and_forth(name, client, last)
+    back_and_forth(name, client, last, drawn)
     client.end()
 
 
-def back_and_forth(name, client, last):
+def back_and_forth(name, client, last, drawn):
     """Steps forward, the same steps back, and again by reverse-continue to a breakpoint."""
-    client.command(f"seek {random.randrange(CYCLES // 2)}")
+    client.command(f"seek {drawn.randrange(CYCLES // 2)}")
     start = int(client.command("where").split()[-1])
     seen = []
     for _ in range(min(40, last - start)):
@@ -145,8 +146,8 @@ def watches(tools):
     check("another view", client.command("catch nothing").startswith("no event"), True)
     check("leaves", client.end(), 0)
     client = Client(f"{folder}/called.img", f"{folder}/pulse_inside.txt", "--cycles", "60", "--outside", *tools[2])
-    client.command("catch enter")
-    client.ask("c")
+    client.command("seek 31")
+    check("outside sees no PC of a module", client.ask("?"), "T05thread:1;")
     check("outside sees no registers of a module", client.ask("g"), "xx" * 64)
     check("outside sees no data of a module", client.ask("m400,2"), "E01")
     client.end()
@@ -154,7 +155,7 @@ def watches(tools):
 
 def broken_packets(tools):
     """After each hundred of broken packets the server answers as before."""
-    client = Client(f"{EXAMPLES}/first.img", *tools[2])
+    client = Client(f"{EXAMPLES}/first.img", "--cycles", "2000", *tools[2])
     sound = client.ask("?")
     for hundred in range(10):
         for _ in range(100):
@@ -162,20 +163,58 @@ def broken_packets(tools):
             text = body if random.randrange(2) else random.choice((b"m", b"Z2,", b"M", b"p", b"qRcmd,", b"vCont;r")) + body
             tail = b"%02x" % (sum(text) & 255) if random.randrange(2) else b"zz"
             client.socket.sendall(b"$" + text.replace(b"#", b"") + b"#" + tail)
-        client.command("seek 0")
-        client.command("sync")
-        while client.command(f"mark{hundred}") is None:
+        client.send("qRcmd," + b"seek 0".hex())
+        while client.packet() != "O" + b"cycle 0 module 0 instruction 0\n".hex():
             pass
-        got = [client.ask("?")]
-        client.socket.settimeout(1)
-        try:
-            while got[-1] != sound or len(got) < 300:
-                got.append(client.reply())
-        except OSError:
-            pass
-        client.socket.settimeout(None)
-        check(f"hundred {hundred} of broken packets", got[-1], sound)
+        got = (client.packet(), client.ask("?"))
+        check(f"hundred {hundred} of broken packets", got, ("OK", sound))
     client.end()
+
+
+def lldb(words, elf, *commands):
+    """What lldb-19 prints of these commands on a server of its own; those behind -k follow a stop by a rule."""
+    client = subprocess.Popen([os.path.join(HERE, "gdb"), *words], stdout=subprocess.PIPE, text=True)
+    port = client.stdout.readline().rsplit(":", 1)[-1].strip()
+    options = ["-o", f"gdb-remote {port}", *(word for pair in commands for word in pair)]
+    told = subprocess.run(["lldb-19", "--no-lldbinit", "-b", elf, *options], capture_output=True, text=True, check=False, timeout=120)
+    client.stdout.close()
+    client.wait(10)
+    return told.stdout + told.stderr
+
+
+def source_level(tools, room):
+    """The page of examples/debug, by lldb-19 and the object of clang-19 that stands there, and by a fresh one."""
+    source, made = f"{EXAMPLES}/debug", [f"{EXAMPLES}/debug/vault.o"]
+    flags = ["--target=msp430", "-O1", "-fno-jump-tables", f"-I{TOP}/include", "-c", f"{source}/vault.c", "-o"]
+    if shutil.which("clang-19"):
+        made.append(f"{room}/fresh.o")
+        subprocess.run(["clang-19", "-gdwarf-4", *flags, made[1]], check=True)
+    if shutil.which("clang-14"):
+        subprocess.run(["clang-14", "-g", *flags, f"{room}/five.o"], check=True)
+        told = subprocess.run([f"{HERE}/gdb", f"{EXAMPLES}/first.img", "--objects", f"{room}/five.o"], capture_output=True, text=True, check=False)
+        check("DWARF 5 of clang 14", (told.returncode, "compile it with -gdwarf-4" in told.stderr), (2, True))
+    else:
+        skip("clang-14")
+    if not shutil.which("lldb-19"):
+        skip("lldb-19")
+        return
+    for number, path in enumerate(made):
+        base = f"{room}/vault{number}"
+        for end, words in (("img", [tools[0], "link"]), ("map", [tools[1], "map"])):
+            with open(f"{base}.{end}", "wb") as file:
+                file.write(output(*words, f"{source}/layout.toml", path))
+        subprocess.run([f"{HERE}/elf", f"{base}.map", f"{base}.img", f"{base}.elf", path], check=True)
+        words = [f"{base}.img", "--map", f"{base}.map", "--objects", path, *tools[2]]
+        told = lldb(words, f"{base}.elf", ("-o", "b put"), ("-o", "c"), ("-o", "bt"), ("-o", "p amount"), ("-o", "breakpoint delete -f"),
+                    ("-o", "c"), ("-k", "bt"), ("-k", "process plugin packet monitor reverse"),
+                    ("-k", "watchpoint set variable -w write shown"), ("-k", "c"), ("-k", "bt"))
+        wanted = [r"`put\(amount=5\) at vault.c:8", r"frame #1: 0x1026 \S*`vault.entry \+ 38", r"frame #2: 0x\w+ \S*`main at vault.c:23",
+                  r"\(unsigned int\) 5", r"stop ReadData pc \w+ addr 1100 module 1 vault", r"`spy\(place=0x1100\) at vault.c:18",
+                  r"old value: 12\s+new value: 5", r"`main at vault.c:24"]
+        for pattern in wanted:
+            if not re.search(pattern, told):
+                print(told)
+            check(f"lldb-19 on {os.path.basename(path)}: {pattern}", bool(re.search(pattern, told)), True)
 
 
 def main():
@@ -185,11 +224,14 @@ def main():
         os.symlink(program, f"{room}/sancus")
         os.symlink(lab, f"{room}/sancus-lab")
         tools = (f"{room}/sancus", f"{room}/sancus-lab", ("--bin", room))
+        runs = []
         for name, image, folder in images(tools, room):
-            for schedule in schedules(folder):
-                moments(f"{name} {os.path.basename(schedule)}", tools, image, schedule)
+            runs += [(f"{name} {os.path.basename(schedule)}", tools, image, schedule) for schedule in schedules(folder)]
+        with ThreadPoolExecutor(3) as pool:
+            list(pool.map(lambda run: moments(*run), runs))
         watches(tools)
         broken_packets(tools)
+        source_level(tools, room)
     print(f"{passed} passed, {failed} failed" + (f", {skipped} skipped" if skipped else ""))
     return bool(failed or not passed or skipped and os.environ.get("CI") == "true")
 

@@ -139,7 +139,8 @@ class Server:
             self.say(line)
             signal = SIGNALS.get(line.split(" ")[1], 11)
             more = f"reason:exception;description:{line.encode().hex()};"
-        return f"T{signal:02x}thread:1;00:{self.run.state.regs[0].to_bytes(self.width, 'little').hex()};{more}"
+        pc = self.registers()[:2 * self.width]
+        return f"T{signal:02x}thread:1;" + (f"00:{pc};" if "x" not in pc else "") + more
 
     def stop_line(self):
         """The line of the stop, with the name of the module in it where a map tells it."""
@@ -165,8 +166,9 @@ class Server:
             return "reason:trace;"
         return told
 
-    def leave_range(self, low, high):
+    def leave_range(self, packet):
         """Steps until the PC is out of a range, or something else is met."""
+        low, high = (int(x, 16) for x in packet[1:].split(","))
         if self.backwards:
             return self.step_back()
         run, at = self.run, None
@@ -255,8 +257,7 @@ class Server:
 
     KINDS = {
         "sS": step, "cC": lambda self, _: self.go_back() if self.backwards else self.go(), "g": lambda self, _: self.registers(),
-        "r": lambda self, packet: self.leave_range(*(int(x, 16) for x in packet[1:].split(","))),
-        "p": register, "m": memory, "M": write, "GPX": refuse, "Zz": point,
+        "r": leave_range, "p": register, "m": memory, "M": write, "GPX": refuse, "Zz": point,
         "HT": lambda self, _: "OK"}
 
     def command(self, line):
