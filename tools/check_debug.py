@@ -15,7 +15,7 @@ from concurrent.futures import ThreadPoolExecutor
 
 sys.dont_write_bytecode = True
 HERE = os.path.dirname(os.path.realpath(__file__))
-sys.path.insert(0, HERE)
+sys.path[:0] = [HERE, os.path.join(HERE, "../python/src")]
 from debug.client import Client
 
 TOP = os.path.dirname(HERE)
@@ -81,7 +81,7 @@ def moments(name, tools, image, schedule):
     last = int(client.command("where").split()[-1])
     if " stop " in trace:
         check(f"{name}: the stop", client.said[-1].partition(": ")[2], re.search(r"^\d+ (stop .*)$", trace, re.M)[1])
-    for cycle in [0] + [drawn.randrange(1, CYCLES) for _ in range(4)] if last else []:
+    for cycle in [0] + [drawn.randrange(1, CYCLES) for _ in range(8)] if last else []:
         where = client.command(f"seek {cycle}").split()
         if where[2] == "stopped" or where[1] in busy:
             continue
@@ -151,6 +151,14 @@ def watches(tools):
     check("outside sees no registers of a module", client.ask("g"), "xx" * 64)
     check("outside sees no data of a module", client.ask("m400,2"), "E01")
     client.end()
+
+
+def refusals(tools, room):
+    """What is wrong is told in one line, with status 2."""
+    junk = write(room, b"junk\n")
+    for words in ([junk], [f"{EXAMPLES}/first.img", junk], [f"{room}/none"], [f"{EXAMPLES}/first.img", "--map", junk]):
+        told = subprocess.run([f"{HERE}/gdb", *words, *tools[2]], capture_output=True, text=True, check=False, timeout=60)
+        check(f"refused {words}", (told.returncode, told.stdout, told.stderr.count("\n")), (2, "", 1))
 
 
 def broken_packets(tools):
@@ -230,6 +238,7 @@ def main():
         with ThreadPoolExecutor(3) as pool:
             list(pool.map(lambda run: moments(*run), runs))
         watches(tools)
+        refusals(tools, room)
         broken_packets(tools)
         source_level(tools, room)
     print(f"{passed} passed, {failed} failed" + (f", {skipped} skipped" if skipped else ""))

@@ -8,6 +8,8 @@ import re
 import subprocess
 import zlib
 
+from sancus.errors import SancusError
+
 INSTRUCTION = re.compile(rb"^\d+ (\d+) ([0-9a-f]{4}): ", re.M)
 STOP = re.compile(rb"^(\d+) (stop .*)$", re.M)
 # These begin with a line's end, since a search for that is the fastest.
@@ -135,7 +137,7 @@ class Record:
         start.advance(before)
         self.last = start
         if not text and not STOP.search(before):
-            raise SystemExit(self.reader.close().strip() or "nothing ran")
+            raise SancusError(self.reader.close().strip() or "steps told nothing")
         self.keep(text, before)
         self.load(0)
         self.seek(0)

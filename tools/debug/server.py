@@ -23,7 +23,7 @@ class Machine:
     def __init__(self, programs, image, schedule, cycles):
         self.lab, self.monitor, self.schedule, self.cycles = *programs, schedule, cycles
         self.folder = tempfile.TemporaryDirectory()
-        self.image, self.script = f"{self.folder.name}/image", f"{self.folder.name}/script"
+        self.image, self.script = image, f"{self.folder.name}/script"
         with open(image, encoding="ascii") as file:
             self.rows = file.read().splitlines()
         self.run = None
@@ -31,8 +31,6 @@ class Machine:
 
     def open(self):
         self.close()
-        with open(self.image, "w", encoding="ascii") as file:
-            file.write("\n".join(self.rows) + "\n")
         self.run = Record(self.lab, self.image, self.schedule, self.cycles)
 
     def close(self):
@@ -70,6 +68,9 @@ class Machine:
         memory[addr:addr + len(data)] = data
         rows = [f"at {a:04x} {memory[a:a + 16].hex()}" for a in range(MEMORY, 65536, 16) if any(memory[a:a + 16])]
         self.rows = [row for row in self.rows if row.split(" ")[0] not in ("at", "end")] + rows + ["end"]
+        self.image = f"{self.folder.name}/image"
+        with open(self.image, "w", encoding="ascii") as file:
+            file.write("\n".join(self.rows) + "\n")
         self.open()
         return True
 

@@ -1,0 +1,1 @@
+"""The debugger on the proved machine: what tools/gdb is made of."""
