@@ -1,10 +1,7 @@
 """A server of gdb's remote serial protocol for a run that steps tells; it executes nothing."""
 import select
-import subprocess
-import sys
-import tempfile
 
-from debug.record import MEMORY, Record
+from debug.record import MEMORY
 from debug.search import EVENTS, Search
 
 SIGNALS = {"Illegal": 4, "Misaligned": 10, "Straddle": 10}  # of gdb; every other rule is SIGSEGV
@@ -13,66 +10,9 @@ FIXED = {
     "vCont?": "vCont;c;C;s;S;r", "qfThreadInfo": "m1", "qsThreadInfo": "l", "qC": "QC1", "qAttached": "1",
     "QStartNoAckMode": "OK"}
 NAMES = ["pc", "sp", "sr", "cg"] + [f"r{k}" for k in range(4, 16)]
+NEAR = 100000  # instructions that are read before the monitor is asked for the next breakpoint
 MOST = 0x4000  # bytes of a packet
 AT_START = "only at the start can memory be written, where that makes another image; registers never"
-
-
-class Machine:
-    """The run of an image, and what the monitor says of it."""
-
-    def __init__(self, programs, image, schedule, cycles):
-        self.lab, self.monitor, self.schedule, self.cycles = *programs, schedule, cycles
-        self.folder = tempfile.TemporaryDirectory()
-        self.image, self.script = image, f"{self.folder.name}/script"
-        with open(image, encoding="ascii") as file:
-            self.rows = file.read().splitlines()
-        self.run = None
-        self.open()
-
-    def open(self):
-        self.close()
-        self.run = Record(self.lab, self.image, self.schedule, self.cycles)
-
-    def close(self):
-        if self.run:
-            self.run.close()
-
-    def ask(self, lines):
-        """What the monitor answers in this cycle: it stands outside, before the events of the cycle."""
-        cycle = self.run.cycle()
-        with open(self.script, "w", encoding="ascii") as file:
-            file.write("\n".join([f"go {cycle}", "mark", *lines]) + "\n")
-        words = [self.monitor, "monitor", self.image, self.schedule, self.script]
-        told = subprocess.run(words, capture_output=True, encoding="ascii", check=False)
-        return told.stderr or told.stdout.partition(f"mark 0 at {cycle}\n")[2].rpartition("end ")[0]
-
-    def read(self, addr, size, outside):
-        """Bytes from an address on, as many as can be told; none of devices, which no proved command shows."""
-        size = max(0, min(size, 65536 - addr)) if addr >= MEMORY else 0
-        state, wanted = self.run.state, range(addr, addr + size)
-        memory, unknown = (bytearray(65536), set(wanted)) if outside else (state.memory, state.unknown)
-        places = sorted({a & ~15 for a in wanted if a in unknown})
-        for line in self.ask([f"mem {place:04x} 16" for place in places]).splitlines() if places else []:
-            if line[4:6] == ": ":
-                place, data = int(line[:4], 16), bytes.fromhex(line[6:])
-                for a in unknown & set(range(place, place + len(data))):
-                    memory[a] = data[a - place]
-                unknown -= set(range(place, place + len(data)))
-        return bytes(memory[addr:next((a for a in wanted if a in unknown), addr + size)])
-
-    def write(self, addr, data):
-        """At the start alone: an image with other bytes is another image, which runs anew. Whether it was done."""
-        if self.run.moment or addr < MEMORY or addr + len(data) > 65536:
-            return False
-        memory = self.run.state.memory
-        memory[addr:addr + len(data)] = data
-        rows = [f"at {a:04x} {memory[a:a + 16].hex()}" for a in range(MEMORY, 65536, 16) if any(memory[a:a + 16])]
-        self.rows = [row for row in self.rows if row.split(" ")[0] not in ("at", "end")] + rows + ["end"]
-        self.image = f"{self.folder.name}/image"
-        with open(self.image, "w", encoding="ascii") as file:
-            file.write("\n".join(self.rows) + "\n")
-        self.open()
-        return True
 
 
 class Server:
@@ -105,6 +45,8 @@ class Server:
         """The next packet with the right sum, or None where the client left."""
         while True:
             while b"#" not in self.buffer[:-2]:
+                while self.machine.ahead and not select.select([self.sock], [], [], 0)[0] and self.machine.read_on():
+                    pass
                 more = self.sock.recv(65536)
                 if not more:
                     return None
@@ -135,7 +77,7 @@ class Server:
 
     def reply(self, more="", signal=5):
         """The reply of where the run stands; at a stop by a rule it names the line."""
-        if self.run.at_stop():
+        if not self.machine.ahead and self.run.at_stop():
             line = self.stop_line()
             self.say(line)
             signal = SIGNALS.get(line.split(" ")[1], 11)
@@ -150,8 +92,13 @@ class Server:
 
     def go(self):
         """Forward to what the client waits for, or to the end."""
-        self.halted = False
-        told = self.run.next_hit(self.search, self.interrupted)
+        self.halted, search = False, self.search
+        limit = self.run.known() + NEAR
+        told = self.run.next_hit(search, lambda: self.interrupted() or self.run.known() > limit)
+        if told is None and not self.halted and not self.run.reader.ended:
+            if not (search.watches or search.events) and self.machine.jump(search.breaks, self.interrupted):
+                return self.reply()
+            told = self.run.next_hit(search, self.interrupted)
         if self.halted:
             return self.reply(signal=2)
         return self.reply("replaylog:end;" if told is None else self.told(told))
@@ -185,7 +132,7 @@ class Server:
 
     def registers(self):
         """The sixteen; in the view of the outside those that the monitor shows."""
-        regs = self.run.state.regs
+        regs = self.machine.ahead[1] if self.machine.ahead else self.run.state.regs
         if self.outside:
             words = self.machine.ask(["regs"]).split()
             if words[2:3] != ["outside"]:
@@ -237,7 +184,8 @@ class Server:
 
     def memory(self, packet):
         addr, size = (int(x, 16) for x in packet[1:].split(","))
-        return self.machine.read(addr, min(size, MOST // 2), self.outside).hex() or "E01"
+        size = max(0, min(size, MOST // 2, 65536 - addr)) if addr >= MEMORY else 0
+        return self.machine.read(addr, size, self.outside).hex() or "E01"
 
     def write(self, packet):
         where, data = packet[1:].split(":")
