@@ -11,6 +11,7 @@ import shutil
 import subprocess
 import sys
 import tempfile
+import time
 from concurrent.futures import ThreadPoolExecutor
 
 sys.dont_write_bytecode = True
@@ -153,6 +154,27 @@ def watches(tools):
     client.end()
 
 
+def far(tools):
+    """A breakpoint that the monitor finds ahead of what steps wrote, and the same by steps alone, which a watch asks for."""
+    seen = []
+    for watched in (False, True):
+        client = Client(f"{TOP}/bench/programs/calls.img", "--cycles", "1000000", *tools[2])
+        client.ask("Z0,400a,2")
+        if watched:
+            client.ask("Z2,300,2")
+        seen.append((client.ask("c"), client.ask("g"), client.memory(0xEF00, 256), client.command("where"), client.ask("s")))
+        client.end()
+    check("a far breakpoint", seen[0], seen[1])
+    check("the cycle of a far breakpoint", seen[0][3].split()[1], "640066")  # of `until 400a` of the monitor
+    client = Client(f"{TOP}/bench/programs/sort.img", *tools[2])
+    client.send("c")
+    time.sleep(0.5)
+    client.socket.sendall(b"\x03")
+    check("an interrupt by the client", client.reply()[:3], "T02")
+    check("back from there", client.ask("bc")[-16:], "replaylog:begin;")
+    client.end()
+
+
 def refusals(tools, room):
     """What is wrong is told in one line, with status 2."""
     junk = write(room, b"junk\n")
@@ -238,6 +260,7 @@ def main():
         with ThreadPoolExecutor(3) as pool:
             list(pool.map(lambda run: moments(*run), runs))
         watches(tools)
+        far(tools)
         refusals(tools, room)
         broken_packets(tools)
         source_level(tools, room)
