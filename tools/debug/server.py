@@ -151,6 +151,8 @@ class Server:
             return ("m" if len(part) == size else "l") + part
         if packet.startswith(("qHostInfo", "qProcessInfo")):
             return f"pid:1;triple:{b'msp430-unknown-unknown'.hex()};ptrsize:2;endian:little;"
+        if packet.startswith("qMemoryRegionInfo:"):  # lldb steps out only to where it may execute
+            return "start:0;size:10000;permissions:rwx;" if int(packet[18:], 16) < 65536 else "start:10000;size:ffff0000;"
         if packet.startswith("qRcmd,"):
             told = self.command(bytes.fromhex(packet[6:]).decode("ascii"))
             if told:
