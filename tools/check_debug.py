@@ -221,7 +221,8 @@ def source_level(tools, room):
         subprocess.run(["clang-19", "-gdwarf-4", *flags, made[1]], check=True)
     if shutil.which("clang-14"):
         subprocess.run(["clang-14", "-g", *flags, f"{room}/five.o"], check=True)
-        told = subprocess.run([f"{HERE}/gdb", f"{EXAMPLES}/first.img", "--objects", f"{room}/five.o"], capture_output=True, text=True, check=False)
+        words = [f"{HERE}/gdb", f"{EXAMPLES}/first.img", "--objects", f"{room}/five.o"]
+        told = subprocess.run(words, capture_output=True, text=True, check=False)
         check("DWARF 5 of clang 14", (told.returncode, "compile it with -gdwarf-4" in told.stderr), (2, True))
     else:
         skip("clang-14")
@@ -235,11 +236,13 @@ def source_level(tools, room):
                 file.write(output(*words, f"{source}/layout.toml", path))
         subprocess.run([f"{HERE}/elf", f"{base}.map", f"{base}.img", f"{base}.elf", path], check=True)
         words = [f"{base}.img", "--map", f"{base}.map", "--objects", path, *tools[2]]
-        told = lldb(words, f"{base}.elf", ("-o", "b put"), ("-o", "c"), ("-o", "bt"), ("-o", "p amount"), ("-o", "breakpoint delete -f"),
-                    ("-o", "c"), ("-k", "bt"), ("-k", "process plugin packet monitor reverse"),
+        told = lldb(words, f"{base}.elf", ("-o", "b put"), ("-o", "c"), ("-o", "bt"), ("-o", "p amount"), ("-o", "finish"), ("-o", "finish"),
+                    ("-o", "breakpoint delete -f"), ("-o", "c"), ("-k", "bt"),
+                    ("-k", "process plugin packet monitor reverse"),
                     ("-k", "watchpoint set variable -w write shown"), ("-k", "c"), ("-k", "bt"))
         wanted = [r"`put\(amount=5\) at vault.c:8", r"frame #1: 0x1026 \S*`vault.entry \+ 38", r"frame #2: 0x\w+ \S*`main at vault.c:23",
-                  r"\(unsigned int\) 5", r"stop ReadData pc \w+ addr 1100 module 1 vault", r"`spy\(place=0x1100\) at vault.c:18",
+                  r"\(unsigned int\) 5", r"step out\n +frame #0: 0x1026", r"step out\n +frame #0: 0x0230 \S*`main",
+                  r"stop ReadData pc \w+ addr 1100 module 1 vault", r"`spy\(place=0x1100\) at vault.c:18",
                   r"old value: 12\s+new value: 5", r"`main at vault.c:24"]
         for pattern in wanted:
             if not re.search(pattern, told):
@@ -249,7 +252,8 @@ def source_level(tools, room):
 
 def main():
     random.seed(11)
-    program, lab = (os.path.realpath(word) for word in (sys.argv[1:] + [f"{TOP}/release/sancus", f"{TOP}/release/sancus-lab"][len(sys.argv) - 1:]))
+    words = sys.argv[1:] + [f"{TOP}/release/sancus", f"{TOP}/release/sancus-lab"][len(sys.argv) - 1:]
+    program, lab = (os.path.realpath(word) for word in words)
     with tempfile.TemporaryDirectory() as room:
         os.symlink(program, f"{room}/sancus")
         os.symlink(lab, f"{room}/sancus-lab")

@@ -9,7 +9,7 @@ SM_FUNCTION(vault) unsigned put(unsigned amount)
     return total;
 }
 
-SM_START(0x0e00);
+SM_START(0x2000); /* above the module, since lldb takes the frame with the lower address for the inner one */
 
 volatile unsigned shown;
 
