@@ -2,7 +2,8 @@
 """Times tools/gdb on bench/programs/sort.img: python3 bench/debug.py [INSTRUCTIONS (10000000)]
 
 A line for each: instructions a second that steps alone writes and that `continue` goes, memory of the server at its most, and
-the seconds for a step, a step back from the end, back to a breakpoint and back over everything."""
+the seconds for a step, a step back from the end, back to a breakpoint and back over everything; then
+instructions a second to a breakpoint that the monitor finds."""
 import os
 import subprocess
 import sys
@@ -16,7 +17,7 @@ from debug.client import Client
 
 IMAGE = os.path.join(HERE, "programs/sort.img")
 CYCLES_EACH = 1.7874  # of an instruction of this program
-BREAK = 0x47EE  # in its middle loop
+BREAK, END = 0x47EE, 0x400A  # in its middle loop, and its end
 
 
 def timed(client, packet):
@@ -43,6 +44,12 @@ def main():
     print(f"back to a breakpoint {timed(client, 'bc'):.3f} s")
     client.ask(f"z0,{BREAK:x},2")
     print(f"back over everything {timed(client, 'bc'):.3f} s")
+    client.end()
+    client = Client(IMAGE, "--cycles", "12000000", "--bin", program)
+    client.ask(f"Z0,{END:x},2")
+    ahead = timed(client, "c")
+    done = int(client.command("where").split()[-1])
+    print(f"continue to a breakpoint that the monitor finds {done / ahead:.0f} a second")
     client.end()
 
 

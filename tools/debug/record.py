@@ -3,9 +3,11 @@
 Moment N is before the run's instruction N. Group N is the line of that instruction with the lines up to the next one. The
 text is kept in compressed chunks of whole groups, each with the state at its first moment, so that a moment costs one chunk."""
 import bisect
+import fcntl
 import os
 import re
 import subprocess
+import time
 import zlib
 
 from sancus.errors import SancusError
@@ -101,12 +103,15 @@ class Reader:
         words = [lab, "steps", image, schedule, str(cycles)]
         self.child = subprocess.Popen(words, stdout=subprocess.PIPE, stderr=subprocess.PIPE)
         self.pipe, self.rest, self.ended = self.child.stdout.fileno(), b"", False
+        fcntl.fcntl(self.pipe, fcntl.F_SETPIPE_SZ, CHUNK)
 
     def read(self, most):
         """At least one more group where there is one, and about `most` bytes where they are there: b"" at the end."""
         parts, size, head = [self.rest], len(self.rest), self.rest
         while not self.ended:
-            part = os.read(self.pipe, 1 << 16)
+            part = os.read(self.pipe, CHUNK)
+            if size + len(part) < most and len(part) < 1 << 16:
+                time.sleep(0.002)  # steps writes in small pieces, each of which would wake this reader
             self.ended = not part
             parts.append(part)
             size += len(part)
