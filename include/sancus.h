@@ -10,6 +10,14 @@
 #define SM_DATA(name) __attribute__((section(".sm." #name ".data"))) static volatile
 #define SM_BSS(name) __attribute__((section(".sm." #name ".bss"))) static volatile
 
+/* The value, of which the compiler knows nothing more: it makes no branch of a mask that has gone through here. */
+#define SM_VALUE_BARRIER(value)          \
+    ({                                   \
+        __typeof__(value) sm_v = (value); \
+        __asm__("" : "+r"(sm_v));        \
+        sm_v;                            \
+    })
+
 /* ---- devices */
 
 #define BYTE_AT(address) (*(volatile unsigned char *)(address))
@@ -37,19 +45,40 @@
 /* What the reset vector names: `start` sets the stack and goes to main. */
 #define SM_START(stack) __asm__(".text\n.globl start\nstart:\n\tmov #" #stack ", r1\n\tbr #main\n")
 
+/* `push` and `pop` change where the call frame lies: from clang 19 on debuggers are told. */
+#if defined(__GCC_HAVE_DWARF2_CFI_ASM) && __clang_major__ >= 19
+#define SM_CFI(bytes) "\n\t.cfi_adjust_cfa_offset " #bytes
+#else
+#define SM_CFI(bytes)
+#endif
+/* The place of a call is noted, so that sancus-cc refuses one inside a module. */
+#define SM_NOTE ".pushsection .sancus.calls,\"\",@progbits\n\t.short .Lback%=\n\t.popsection\n\t"
+
 /* Calls entry NUMBER of the module whose text starts at TEXT, both constants. The answer is the value. */
 #define SM_CALL(text, number, argument) SM_CALL_4(text, number, argument, 0, 0, 0)
-#define SM_CALL_4(text, number, first, second, third, fourth)                                      \
-    ({                                                                                             \
-        register unsigned sm_r12 __asm__("r12") = (first);                                         \
-        register unsigned sm_r13 __asm__("r13") = (second);                                        \
-        register unsigned sm_r14 __asm__("r14") = (third);                                         \
-        register unsigned sm_r15 __asm__("r15") = (fourth);                                        \
-        __asm__ volatile("push r4\n\tmov %5, r6\n\tmov #.Lback%=, r7\n\tbr %4\n.Lback%=:\n\tpop r4" \
-                         : "+r"(sm_r12), "+r"(sm_r13), "+r"(sm_r14), "+r"(sm_r15)                  \
-                         : "i"(text), "i"(number)                                                  \
-                         : "r5", "r6", "r7", "r8", "r9", "r10", "r11", "memory");                  \
-        sm_r12;                                                                                    \
+#define SM_CALL_4(text, number, first, second, third, fourth)                                                     \
+    ({                                                                                                            \
+        register unsigned sm_r12 __asm__("r12") = (first);                                                        \
+        register unsigned sm_r13 __asm__("r13") = (second);                                                       \
+        register unsigned sm_r14 __asm__("r14") = (third);                                                        \
+        register unsigned sm_r15 __asm__("r15") = (fourth);                                                       \
+        __asm__ volatile(SM_NOTE "push r4" SM_CFI(2) "\n\tmov %5, r6\n\tmov #.Lback%=, r7\n\tbr %4\n.Lback%=:\n\t" \
+                                 "pop r4" SM_CFI(-2)                                                              \
+                         : "+r"(sm_r12), "+r"(sm_r13), "+r"(sm_r14), "+r"(sm_r15)                                 \
+                         : "i"(text), "i"(number)                                                                 \
+                         : "r5", "r6", "r7", "r8", "r9", "r10", "r11", "memory");                                 \
+        sm_r12;                                                                                                   \
+    })
+
+/* The call of an entry by the type of its prototype, with up to four arguments of a word: `sancus-cc --header` names it. */
+#define SM_CALL_ENTRY(text, number, function, ...) \
+    ((__typeof__(function(__VA_ARGS__)))SM_WORDS(text, number, ##__VA_ARGS__, 0, 0, 0, 0))
+#define SM_WORDS(text, number, first, second, third, fourth, ...) \
+    SM_CALL_4(text, number, SM_WORD(first), SM_WORD(second), SM_WORD(third), SM_WORD(fourth))
+#define SM_WORD(value)                                                               \
+    ({                                                                               \
+        _Static_assert(sizeof(value) <= 2, "an argument of an entry is one word");   \
+        (unsigned)(value);                                                           \
     })
 
 /* ---- inside a module whose data start at DATA: what the code at its entry keeps there of the call */
