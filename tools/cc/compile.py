@@ -9,7 +9,7 @@ from refusal import Refusal
 
 TOP = os.path.dirname(os.path.dirname(os.path.dirname(os.path.realpath(__file__))))
 RUNTIME = os.path.join(TOP, "lib", "module_runtime.S")
-WRITE, ALLOC, EXEC, TLS = 1, 2, 4, 0x400
+WRITE, ALLOC = 1, 2
 NOBITS = 8
 COMMON = 0xFFF2
 FLOATS = re.compile(r"__mspabi_(add|sub|mpy|div|cmp|fix|flt|cvt|neg)\w*[fd]\w*$|__\w+[sd]f\d?$")
@@ -69,8 +69,6 @@ def refuse_object(path, found, module):
     for index, (name, head) in enumerate(zip(found.names, found.heads)):
         if name.startswith(CONSTRUCTORS) and head[2] & ALLOC:
             raise Refusal(f"{path}: section {name}: nothing runs constructors; call the function from an entry or from main")
-        if head[2] & ALLOC and head[2] & TLS:
-            raise Refusal(f"{path}: section {name}: there are no threads; make the variable static")
         if name.startswith("__interrupt_vector"):
             refuse_interrupt(path, found, index, module)
         if name == ".sancus.calls":
