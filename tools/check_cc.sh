@@ -2,6 +2,8 @@
 # Tries sancus-cc with each clang from 14 to 19 that is there: what it makes, what it refuses, its runtime, and examples/vault.
 #     tools/check_cc.sh [SANCUS [SANCUS_LAB]]
 # The last line is 'N passed, M failed', with ', K skipped' where clang is missing; with CI=true that is a failure.
+# $flags are several words.
+# shellcheck disable=SC2086
 here=$(dirname -- "$(readlink -f -- "$0")") || exit 1
 top=${here%/*}
 sancus=$(readlink -f -- "${1:-$top/sancus}") || exit 1
@@ -237,10 +239,26 @@ ashrdi3 extern unsigned long long __ashrdi3(unsigned long long, int); d = __ashr
 C
     cc --module m "-I$top/include" -c secret.c -o secret.o 2>got && cc --module m --runtime secret.o -o runtime.o 2>>got
     row 'helpers on secrets' $?
-    for name in $(sed -n 's/^unsigned \([a-z0-9]*\)(void).*/\1/p' secret.c); do
+    sed -n 's/^unsigned \([a-z0-9]*\)(void).*/\1/p' secret.c >names
+    while read -r name; do
         cc --layout --entries "m=$name" secret.o runtime.o -o l.toml 2>got
         "$sancus" link l.toml secret.o runtime.o >secret.img 2>>got
         says yes "$sancus" check secret.img 1
+    done <names
+}
+
+# A mask of a sign bit: clang makes a branch of it, and none after a barrier.
+try_barrier() {
+    for way in 'c >> 15' 'SM_VALUE_BARRIER(c >> 15)'; do
+        cat >mask.c <<C
+#include "sancus.h"
+SM_DATA(m) unsigned c = 3, a = 5, kept;
+unsigned choose(void) { kept = -($way) & a; return 0; }
+C
+        cc --module m -O2 -c mask.c -o mask.o 2>got && cc --layout mask.o -o l.toml 2>>got && "$sancus" link l.toml mask.o >mask.img 2>>got
+        "$sancus" check mask.img 1 >got 2>&1
+        case $way in SM_*) [ "$(cat got)" = yes ] ;; *) grep -q 'no .* SecretBranch' got ;; esac
+        row "a mask of $way" $?
     done
 }
 
@@ -265,13 +283,15 @@ sed 's/"add"/"sub"/' "$top/examples/c/layout.toml" >sub.toml
 flags=-Os
 for version in 14 15 16 17 18 19; do
     compiler=clang-$version
-    command -v "$compiler" >/dev/null && command -v "llvm-objcopy-$version" >/dev/null || continue
+    command -v "$compiler" >/dev/null || continue
+    command -v "llvm-objcopy-$version" >/dev/null || continue
     seen=yes
     export CLANG="$compiler" OBJCOPY="llvm-objcopy-$version"
     for flags in -O1 '-Os -g' -O2; do try_library; done
     try_refusals
     try_memory
     try_secrets
+    try_barrier
     try_debugger
     "$here/check_runtime" "$sancus" >got 2>&1
     row 'the runtime on drawn operands' $?

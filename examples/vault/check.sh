@@ -22,7 +22,6 @@ row() { # row WHAT WANTED GOT
 
 sed "s|\.\./\.\./sancus |$sancus |; s|\.\./\.\./|$top/|" Makefile >here.mk
 make -s -f here.mk vault.img || exit 1
-objects='vault.o prover.o main.o'
 
 # The message of the RFC; its key, nonce and first number of a block are those in vault.c.
 message="Ladies and Gentlemen of the class of '99: If I could offer you only one tip for the future, sunscreen would be it."
@@ -31,12 +30,12 @@ f91b65c5524733ab8f593dabcd62b3571639d624e65152ab8f530c359f0861d8\
 07ca0dbf500d6a6156a38e088a22b65e52bc514d16ccf806818ce91ab7793736\
 5af90bbf74a35be6b40b8eedf2785e42874d
 "$sancus" challenge challenge.txt >events.txt
-printf %s "$message" | od -An -v -tx1 | tr -s ' \n' '\n\n' | awk 'NF { printf "%d serial %s\n", 20000 + 1000 * n++, $1 }' >>events.txt
+printf %s "$message" | od -An -v -tx1 | tr -s ' ' '\n' | awk 'NF { printf "%d serial %s\n", 20000 + 1000 * n++, $1 }' >>events.txt
 "$sancus" image vault.img events.txt 400000 >trace.txt
 row 'the message of the RFC' "$sealed" "$(awk '$2 == "out" && ++n > 16 { printf "%s", $3 }' trace.txt)"
 provider=$("$sancus" key vault.img 2 | awk '$1 == "provider" { print $2 }')
 row 'the prover is genuine' '0 genuine' "$("$sancus" vendor vault.img 2 "$provider" challenge.txt trace.txt)"
-left=$("$lab" map layout.toml $objects | awk '$1 == "symbol" && $NF == "left" { print $2 }')
+left=$("$lab" map layout.toml vault.o prover.o main.o | awk '$1 == "symbol" && $NF == "left" { print $2 }')
 printf 'answer r12\npublic %s\n' "$left" >terms
 row 'released' yes "$("$lab" released vault.img 1 terms -)"
 row 'to check the number of bytes left is a secret too' 'no SecretBranch' "$("$sancus" check vault.img 1 | cut -d' ' -f1,3)"
