@@ -51,8 +51,12 @@
 #else
 #define SM_CFI(bytes)
 #endif
-/* The place of a call is noted, so that sancus-cc refuses one inside a module. */
+/* sancus-cc notes the place of each call, to refuse one inside a module. */
+#ifdef SANCUS_CC
 #define SM_NOTE ".pushsection .sancus.calls,\"\",@progbits\n\t.short .Lback%=\n\t.popsection\n\t"
+#else
+#define SM_NOTE
+#endif
 
 /* Calls entry NUMBER of the module whose text starts at TEXT, both constants. The answer is the value. */
 #define SM_CALL(text, number, argument) SM_CALL_4(text, number, argument, 0, 0, 0)

@@ -41,17 +41,15 @@ def runtime_blocks():
     return {name: {called for called in re.findall(r"#(\w+)", text) if called in names} for name, text in blocks}
 
 
-def clang_words(module, words):
+def clang_words(words):
     """The options: the user's come last, so that they count."""
-    ours = ["--target=msp430", "-fno-common", "-fstack-size-section", "-fno-jump-tables", "-I", TOP + "/include"]
+    ours = ["--target=msp430", "-fno-common", "-fstack-size-section", "-fno-jump-tables", "-DSANCUS_CC", "-I", TOP + "/include"]
     ours += ["-isystem", TOP + "/include/freestanding"]
     if not any(re.match(r"-O", word) for word in words):
         ours.append("-Os")
     if any(re.match(r"-g($|[1-9]|gdb|line)", word) for word in words):
         ours.append("-gdwarf-4")
         words = ["-gdwarf-4" if word == "-g" else word for word in words]
-    if module:
-        ours.append(f"-DSM_MODULE={module}")
     return ours + words
 
 
@@ -132,7 +130,7 @@ def compile_c(module, layout_file, words):
     out, sources = output_of(words)
     if "-c" not in words:
         if {"-E", "-S", "-M", "-MM", "-fsyntax-only"} & set(words):
-            run([tool("CLANG", "clang"), *clang_words(module, words)])
+            run([tool("CLANG", "clang"), *clang_words(words)])
             return 0
         raise Refusal("no '-c': this driver makes objects; link them with 'sancus link LAYOUT OBJECT..'")
     if not sources:
@@ -141,7 +139,7 @@ def compile_c(module, layout_file, words):
         raise Refusal("one source at a time: 'sancus-cc -c FILE -o FILE'")
     if re.search(r"\.(cc|cpp|cxx|C|c\+\+)$", sources[0]):
         raise Refusal(f"{sources[0]}: C++ needs a runtime that is not here; write C")
-    run([tool("CLANG", "clang"), *clang_words(module, words)])
+    run([tool("CLANG", "clang"), *clang_words(words)])
     try:
         finish(out, module)
         if layout_file:
