@@ -1,5 +1,6 @@
 """The objects of a link, as one program: which code lies in which module, and how deep its stacks go."""
 import struct
+import sys
 
 from elffile import Object
 from refusal import Refusal
@@ -195,7 +196,7 @@ def check_stack(program, module):
             continue
         function, depth = program.functions[place], program.depth(place)
         if depth is None:
-            print(f"sancus-cc: warning: {function.name}: its stack is not known (recursion, or code without sizes)")
+            print(f"sancus-cc: warning: {function.name}: its stack is not known (recursion, or code without sizes)", file=sys.stderr)
         elif depth > module["stack"]:
             raise Refusal(f"{function.path}: {function.name} needs {depth} bytes of stack; module {module['name']} has "
                           f"{module['stack']}: write 'stack = {depth}' in the layout")

@@ -1,0 +1,3 @@
+/* Types alone: nothing here prints. */
+#pragma once
+#include <stdint.h>
