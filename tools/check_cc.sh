@@ -151,6 +151,7 @@ C
     refused 'the layout has no module m (it has: meter)' --module m --layout-file "$top/examples/c/layout.toml" -c in.c -o out.o
     refused 'a name has 1 to 32 letters' --module a-b -c in.c -o out.o
     refused "argument to '--module' is missing" -c in.c -o out.o --module
+    refused 'gdwarf-5.*write -g' -gdwarf-5 -c in.c -o out.o
     refused "no '-c'" --module m in.c -o out.o
     refused 'no input files' --check "$top/examples/c/layout.toml"
     cat >in.c <<'C'

@@ -47,6 +47,8 @@ def clang_words(words):
     ours += ["-isystem", TOP + "/include/freestanding"]
     if not any(re.match(r"-O", word) for word in words):
         ours.append("-Os")
+    if "-gdwarf-5" in words:
+        raise Refusal("-gdwarf-5: the debuggers for the MSP430 read DWARF 4; write -g")
     if any(re.match(r"-g($|[1-9]|gdb|line)", word) for word in words):
         ours.append("-gdwarf-4")
         words = ["-gdwarf-4" if word == "-g" else word for word in words]
@@ -115,12 +117,15 @@ def finish(path, module):
 
 def output_of(words):
     """The object that clang writes, and the sources."""
+    joined = [word[2:] for word in words if re.match("-o.", word)]
     sources = [word for word in words if re.search(r"\.(c|i|s|S|cc|cpp|cxx|C|c\+\+)$", word) and not word.startswith("-")]
     if "-o" in words[:-1]:
         at = words.index("-o")
         out = words[at + 1]
         sources = [word for word in sources if word != out]
         return out, sources
+    if joined:
+        return joined[-1], sources
     return os.path.splitext(os.path.basename(sources[0]))[0] + ".o" if len(sources) == 1 else None, sources
 
 
