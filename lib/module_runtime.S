@@ -14,11 +14,30 @@
 \name:
 .endm
 
+.macro save registers:vararg
+.irp register, \registers
+	push \register
+.endr
+.endm
+
+.macro restore registers:vararg
+.irp register, \registers
+	pop \register
+.endr
+.endm
+
 ; One off a shift's count, down to 0; `m` is 0 where there was one.
 .macro count_down count:req, m:req
 	sub #1, \count
 	subc \m, \m
 	sub \m, \count
+.endm
+
+; Adds `from` to `to` where `m` is 0, by `op` and a spare register.
+.macro masked op:req, from:req, to:req, m:req, spare:req
+	mov \from, \spare
+	bic \m, \spare
+	\op \spare, \to
 .endm
 
 ; Puts `from` into `to` where `m` is 0.
@@ -67,8 +86,7 @@
 
 .macro shift_right_32 name:req, step:req
 	function \name, 4
-	push r10
-	push r9
+	save r10, r9
 	mov #32, r9
 1:	count_down r14, r15
 	mov r12, r10
@@ -80,20 +98,14 @@
 	choose r11, r13, r15
 	dec r9
 	jnz 1b
-	pop r9
-	pop r10
+	restore r9, r10
 	ret
 .endm
 
 ; The count of a shift of 64 bits lies on the stack.
 .macro shift_right_64 name:req, step:req
 	function \name, 12
-	push r10
-	push r9
-	push r8
-	push r7
-	push r6
-	push r5
+	save r10, r9, r8, r7, r6, r5
 	mov 14(r1), r5
 	mov #64, r6
 1:	count_down r5, r7
@@ -112,12 +124,7 @@
 	choose r11, r15, r7
 	dec r6
 	jnz 1b
-	pop r5
-	pop r6
-	pop r7
-	pop r8
-	pop r9
-	pop r10
+	restore r5, r6, r7, r8, r9, r10
 	ret
 .endm
 
@@ -125,9 +132,7 @@
 	function __mspabi_slli, 0
 	mov #16, r14
 1:	count_down r13, r15
-	mov r12, r11
-	bic r15, r11
-	add r11, r12
+	masked add, r12, r12, r15, r11
 	dec r14
 	jnz 1b
 	ret
@@ -146,12 +151,8 @@
 	push r10
 	mov #32, r10
 1:	count_down r14, r15
-	mov r12, r11
-	bic r15, r11
-	add r11, r12
-	mov r13, r11
-	bic r15, r11
-	addc r11, r13
+	masked add, r12, r12, r15, r11
+	masked addc, r13, r13, r15, r11
 	dec r10
 	jnz 1b
 	pop r10
@@ -168,31 +169,17 @@
 
 #ifdef NEED___ashldi3
 	function __ashldi3, 8
-	push r10
-	push r9
-	push r8
-	push r7
+	save r10, r9, r8, r7
 	mov 10(r1), r7
 	mov #64, r8
 1:	count_down r7, r9
-	mov r12, r10
-	bic r9, r10
-	add r10, r12
-	mov r13, r10
-	bic r9, r10
-	addc r10, r13
-	mov r14, r10
-	bic r9, r10
-	addc r10, r14
-	mov r15, r10
-	bic r9, r10
-	addc r10, r15
+	masked add, r12, r12, r9, r10
+	masked addc, r13, r13, r9, r10
+	masked addc, r14, r14, r9, r10
+	masked addc, r15, r15, r9, r10
 	dec r8
 	jnz 1b
-	pop r7
-	pop r8
-	pop r9
-	pop r10
+	restore r7, r8, r9, r10
 	ret
 #endif
 
@@ -214,9 +201,7 @@
 1:	clrc
 	rrc r13
 	subc r15, r15
-	mov r12, r11
-	bic r15, r11
-	add r11, r14
+	masked add, r12, r14, r15, r11
 	add r12, r12
 	dec r10
 	jnz 1b
@@ -227,10 +212,7 @@
 
 #ifdef NEED___mspabi_mpyl
 	function __mspabi_mpyl, 8
-	push r10
-	push r9
-	push r8
-	push r7
+	save r10, r9, r8, r7
 	clr r9
 	clr r10
 	mov #32, r8
@@ -238,39 +220,22 @@
 	rrc r15
 	rrc r14
 	subc r7, r7
-	mov r12, r11
-	bic r7, r11
-	add r11, r9
-	mov r13, r11
-	bic r7, r11
-	addc r11, r10
+	masked add, r12, r9, r7, r11
+	masked addc, r13, r10, r7, r11
 	add r12, r12
 	addc r13, r13
 	dec r8
 	jnz 1b
 	mov r9, r12
 	mov r10, r13
-	pop r7
-	pop r8
-	pop r9
-	pop r10
+	restore r7, r8, r9, r10
 	ret
 #endif
 
 ; The factor in R8 to R11 is shifted down on the stack.
 #ifdef NEED___mspabi_mpyll
 	function __mspabi_mpyll, 22
-	push r10
-	push r9
-	push r8
-	push r7
-	push r6
-	push r5
-	push r4
-	push r11
-	push r10
-	push r9
-	push r8
+	save r10, r9, r8, r7, r6, r5, r4, r11, r10, r9, r8
 	clr r4
 	clr r5
 	clr r6
@@ -282,18 +247,10 @@
 	rrc 2(r1)
 	rrc 0(r1)
 	subc r8, r8
-	mov r12, r9
-	bic r8, r9
-	add r9, r4
-	mov r13, r9
-	bic r8, r9
-	addc r9, r5
-	mov r14, r9
-	bic r8, r9
-	addc r9, r6
-	mov r15, r9
-	bic r8, r9
-	addc r9, r7
+	masked add, r12, r4, r8, r9
+	masked addc, r13, r5, r8, r9
+	masked addc, r14, r6, r8, r9
+	masked addc, r15, r7, r8, r9
 	add r12, r12
 	addc r13, r13
 	addc r14, r14
@@ -305,13 +262,7 @@
 	mov r6, r14
 	mov r7, r15
 	add #8, r1
-	pop r4
-	pop r5
-	pop r6
-	pop r7
-	pop r8
-	pop r9
-	pop r10
+	restore r4, r5, r6, r7, r8, r9, r10
 	ret
 #endif
 
@@ -319,8 +270,7 @@
 
 #ifdef NEED_divide_word
 	function divide_word, 4
-	push r10
-	push r9
+	save r10, r9
 	clr r14
 	mov #16, r9
 1:	add r12, r12
@@ -335,8 +285,7 @@
 	add r10, r12
 	dec r9
 	jnz 1b
-	pop r9
-	pop r10
+	restore r9, r10
 	ret
 #endif
 
@@ -354,8 +303,7 @@
 
 #ifdef NEED_divide_signed_word
 	function divide_signed_word, 4
-	push r10
-	push r9
+	save r10, r9
 	sign r12, r10
 	sign r13, r9
 	negate_if r10, r12
@@ -364,8 +312,7 @@
 	call #divide_word
 	negate_if r10, r14
 	negate_if r9, r12
-	pop r9
-	pop r10
+	restore r9, r10
 	ret
 #endif
 
@@ -384,12 +331,7 @@
 ; R12 and R13 by R14 and R15 gives the quotient in R12 and R13, the rest in R14 and R15.
 #ifdef NEED_divide_long
 	function divide_long, 12
-	push r10
-	push r9
-	push r8
-	push r7
-	push r6
-	push r5
+	save r10, r9, r8, r7, r6, r5
 	clr r9
 	clr r10
 	mov #32, r5
@@ -412,12 +354,7 @@
 	jnz 1b
 	mov r9, r14
 	mov r10, r15
-	pop r5
-	pop r6
-	pop r7
-	pop r8
-	pop r9
-	pop r10
+	restore r5, r6, r7, r8, r9, r10
 	ret
 #endif
 
@@ -436,8 +373,7 @@
 
 #ifdef NEED_divide_signed_long
 	function divide_signed_long, 4
-	push r10
-	push r9
+	save r10, r9
 	sign r13, r10
 	sign r15, r9
 	negate_long_if r10, r12, r13
@@ -446,8 +382,7 @@
 	call #divide_long
 	negate_long_if r10, r14, r15
 	negate_long_if r9, r12, r13
-	pop r9
-	pop r10
+	restore r9, r10
 	ret
 #endif
 
@@ -512,10 +447,7 @@
 ; The difference of the first pair of bytes that differ: all pairs are read.
 #ifdef NEED_memcmp
 	function memcmp, 8
-	push r10
-	push r9
-	push r8
-	push r7
+	save r10, r9, r8, r7
 	clr r15
 	mov #-1, r7
 1:	tst r14
@@ -532,10 +464,7 @@
 	dec r14
 	jmp 1b
 2:	mov r15, r12
-	pop r7
-	pop r8
-	pop r9
-	pop r10
+	restore r7, r8, r9, r10
 	ret
 #endif
 
