@@ -12,9 +12,9 @@ export function plainName(name) {
   return parts.join("/");
 }
 
-const isFolder = (files, name) => name !== "" && Object.keys(files).some((file) => file.startsWith(`${name}/`));
+const isFolder = (files, name) => name !== "" && [...files.keys()].some((file) => file.startsWith(`${name}/`));
 
-// The four calls of one instance, over files ({name: Uint8Array}); `put(stream, bytes)` takes what is written.
+// The four calls of one instance, over files (a Map from names to bytes); `put(stream, bytes)` takes what is written.
 class Host {
   #words;
   #files;
@@ -35,7 +35,7 @@ class Host {
   // A folder is opened, and not read.
   open(at, length) {
     const name = plainName(new TextDecoder().decode(this.#bytes(at, length)));
-    if (Object.hasOwn(this.#files, name)) return this.#opened.push(this.#files[name]) + 2;
+    if (this.#files.has(name)) return this.#opened.push(this.#files.get(name)) + 2;
     return isFolder(this.#files, name) ? this.#opened.push(null) + 2 : -1;
   }
 

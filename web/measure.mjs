@@ -24,10 +24,9 @@ const LINES = [
   ["a C object, linked and run", "run examples/c/layout.toml - 400 examples/c/meter.o"],
   ["a module's text, judged", "balance examples/channel/module_0.img 1 examples/channel/arms.txt"],
 ];
-const files = { "busy.img": BUSY, "sender.img": SENDER };
-for (const name in files) files[name] = new TextEncoder().encode(files[name]);
+const files = new Map([["busy.img", BUSY], ["sender.img", SENDER]].map(([name, text]) => [name, new TextEncoder().encode(text)]));
 for (const name of LINES.flatMap(([, line]) => line.split(" ")).filter((word) => word.startsWith("examples/"))) {
-  files[name] = new Uint8Array(readFileSync(top + name));
+  files.set(name, new Uint8Array(readFileSync(top + name)));
 }
 
 async function least(act) {
@@ -44,7 +43,7 @@ const program = process.argv[2];
 const bytes = readFileSync(`${top}release/sancus.wasm`);
 const module = await WebAssembly.compile(bytes);
 const native = new Native(program);
-for (const name in files) native.put(name, files[name]);
+for (const [name, bytes] of files) native.put(name, bytes);
 const commit = spawnSync("git", ["-C", top, "rev-parse", "--short", "HEAD"]).stdout.toString().trim();
 const machine = `${cpus()[0].model}, ${cpus().length} processors, load ${loadavg()[0].toFixed(1)}`;
 console.log(`${new Date().toISOString().slice(0, 16)}Z, commit ${commit}, ${machine}, node ${process.version}`);

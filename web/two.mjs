@@ -13,8 +13,8 @@ const files = new Files(KINDS.flatMap((kind) => SECRETS.map((secret) => image(ki
 const known = new Map();
 let runner;
 
-async function output(words, more = {}) {
-  const ran = await runner.run(words, { ...await files.forRun(words), ...more });
+async function output(words, more = []) {
+  const ran = await runner.run(words, new Map([...await files.forRun(words), ...more]));
   if (ran.status !== 0) throw new Error(ran.trap ?? ran.err);
   return new TextDecoder().decode(ran.out);
 }
@@ -22,7 +22,7 @@ async function output(words, more = {}) {
 async function traces(kind, cycle) {
   const key = `${kind} ${cycle}`;
   if (!known.has(key)) {
-    const schedule = { pulse: new TextEncoder().encode(`${cycle} line 0 up\n`) };
+    const schedule = [["pulse", new TextEncoder().encode(`${cycle} line 0 up\n`)]];
     const both = [];
     for (const secret of SECRETS) {
       both.push(await output(["image", image(kind, secret), "pulse", String(CYCLES)], schedule));

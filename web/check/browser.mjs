@@ -154,11 +154,11 @@ const inPage = async (cases, files) => {
   const { loadModule, Runner } = await import("/web/runner.mjs");
   const runner = new Runner(await loadModule());
   const bytes = (coded) => Uint8Array.from(atob(coded), (sign) => sign.charCodeAt(0));
-  const content = Object.fromEntries(Object.entries(files).map(([name, coded]) => [name, bytes(coded)]));
+  const content = new Map(Object.entries(files).map(([name, coded]) => [name, bytes(coded)]));
   const found = [];
   for (const { words, to } of cases) {
     const ran = await runner.run(words, content);
-    if (to) content[to] = ran.out;
+    if (to) content.set(to, ran.out);
     const out = btoa(Array.from(ran.out, (byte) => String.fromCharCode(byte)).join(""));
     found.push({ status: ran.status, err: ran.err, out });
   }
@@ -168,7 +168,7 @@ const inPage = async (cases, files) => {
 async function allCases(browser, native) {
   const files = filesOf(top);
   const coded = {};
-  for (const name in files) coded[name] = Buffer.from(files[name]).toString("base64");
+  for (const [name, bytes] of files) coded[name] = Buffer.from(bytes).toString("base64");
   const { cases } = casesOf(top);
   const found = await browser.value(`(${inPage})(${JSON.stringify(cases)}, ${JSON.stringify(coded)})`);
   cases.forEach(({ words, to }, at) => {
@@ -200,7 +200,7 @@ const port = await freePort();
 const url = `http://127.0.0.1:${port}/`;
 const server = spawn(join(top, "web/serve"), [String(port)], { stdio: "ignore" });
 const native = new Native(program);
-for (const [name, bytes] of Object.entries(filesOf(top))) native.put(name, bytes);
+for (const [name, bytes] of filesOf(top)) native.put(name, bytes);
 const browser = await Chromium.start(chromium);
 try {
   await answers(`${url}web/index.html`);

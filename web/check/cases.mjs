@@ -40,8 +40,8 @@ export function casesOf(top) {
   };
 }
 
-// The examples' files by name.
+// The examples' files, a Map by name.
 export function filesOf(top) {
-  const names = readFileSync(join(top, "web/files.txt"), "utf8").split("\n").filter((name) => name);
-  return Object.fromEntries(names.map((name) => [name, new Uint8Array(readFileSync(join(top, name)))]));
+  const names = readFileSync(join(top, "web/files.txt"), "utf8").split("\n").filter((name) => name.startsWith("examples/"));
+  return new Map(names.map((name) => [name, new Uint8Array(readFileSync(join(top, name)))]));
 }

@@ -27,12 +27,12 @@ async function both(words, files) {
 
 async function pagesLines() {
   const files = filesOf(top);
-  for (const name in files) native.put(name, files[name]);
+  for (const [name, bytes] of files) native.put(name, bytes);
   const { cases, skipped } = casesOf(top);
   for (const { words, to } of cases) {
     const ran = await both(words, files);
     if (!to) continue;
-    files[to] = new Uint8Array(ran.out);
+    files.set(to, new Uint8Array(ran.out));
     native.put(to, ran.out);
   }
   return skipped;
@@ -42,7 +42,7 @@ async function madeImages(count) {
   for (let seed = 1; seed <= count; seed++) {
     const { files, lines } = made(seed);
     for (const name in files) native.put(name, files[name]);
-    for (const line of lines) await both(line.split(" "), files);
+    for (const line of lines) await both(line.split(" "), new Map(Object.entries(files)));
     if (seed % 100 === 0) process.stderr.write(`${seed} of ${count} images\n`);
   }
 }
