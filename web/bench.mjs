@@ -1,8 +1,14 @@
-// The Bench: a prompt for the program's commands, the files that they read, what they write, and timelines of traces.
+// The Bench: a prompt for the programs' commands, the files that they read, what they write, and timelines of traces.
 import { commandsOf } from "./command.mjs";
-import { Files } from "./files.mjs";
+import { button, element, items, part, showLegend, textOf, traceList } from "./elements.mjs";
+import { Files, MOST_BYTES } from "./files.mjs";
+import { MODULES } from "./modules.mjs";
+import { output } from "./output.mjs";
 import { loadModule, Runner } from "./runner.mjs";
-import { firstDifference, isTrace, LEGEND, readMap, svg } from "./trace.mjs";
+import { firstDifference, isTrace, picture, read, readMap } from "./trace.mjs";
+import { lookScript, lookTables, View } from "./view.mjs";
+import { loadReasons, named, refusedLine, why } from "./why.mjs";
+import { Workbench } from "./workbench.mjs";
 
 const COMMANDS = [
   "image examples/interrupts/called.img examples/interrupts/pulse_inside.txt 40",
@@ -22,75 +28,68 @@ const COMMANDS = [
     + " examples/attestation/challenges.txt trace.txt",
   "make 1",
 ];
-const MOST_LINES = 2000;
-const MOST_BYTES = 1 << 22;
-const part = (id) => document.getElementById(id);
+const MAP = "bench/bench.map";
+const SCRIPT = "bench/look.txt";
+const LOOKED = "bench/look.img";
+const MOST_DRAWN = 1 << 22;
 const tried = [];
+const runners = {};
 let back = 0;
 let files;
-let runner;
+let workbench;
 let traceBefore = null;
-
-function element(tag, text = "", className = "") {
-  const made = document.createElement(tag);
-  made.textContent = text;
-  made.className = className;
-  return made;
-}
-
-function button(text, act) {
-  const made = element("button", text);
-  made.type = "button";
-  made.onclick = act;
-  return made;
-}
-
-const items = (buttons) => buttons.map((it) => {
-  const item = element("li");
-  item.append(it);
-  return item;
-});
-
-// Bytes as a text, or null where they are none.
-function textOf(bytes) {
-  try {
-    const text = new TextDecoder("utf-8", { fatal: true }).decode(bytes);
-    return text.includes("\0") ? null : text;
-  } catch {
-    return null;
-  }
-}
 
 // ---- files
 
 async function openFile(name) {
-  const text = textOf(await files.read(name));
+  const bytes = await files.read(name);
+  const text = bytes.length > MOST_BYTES ? null : textOf(bytes);
   part("name").value = name;
   part("text").value = text ?? "";
-  part("kept").textContent = text === null ? `${name} is no text: ${(await files.read(name)).length} bytes` : "";
+  part("kept").textContent = text === null ? `${name} is no text of at most 1,048,576 bytes: ${bytes.length} bytes` : "";
 }
 
 function listFiles() {
   part("files").replaceChildren(...items(files.names().map((name) => button(name, () => openFile(name)))));
 }
 
+// Each by itself: one that cannot be read or is too large does not keep the others out.
 async function addFiles(list) {
-  for (const file of list) files.put(file.name, new Uint8Array(await file.arrayBuffer()));
+  const said = await Promise.all([...list].map(async (file) => {
+    try {
+      if (file.size > MOST_BYTES) throw new Error(`${file.size.toLocaleString("en")} bytes; at most 1,048,576 are kept`);
+      files.put(file.name, new Uint8Array(await file.arrayBuffer()));
+      return { added: file.name };
+    } catch (error) {
+      return { refused: `${file.name} (${error.message})` };
+    }
+  }));
   listFiles();
-  part("kept").textContent = `Added: ${[...list].map((file) => file.name).join(", ")}`;
+  const added = said.flatMap((it) => it.added ?? []);
+  const refused = said.flatMap((it) => it.refused ?? []);
+  part("kept").textContent = [
+    ...(added.length ? [`Added: ${added.join(", ")}`] : []), ...(refused.length ? [`Not added: ${refused.join(", ")}`] : []),
+  ].join(". ");
+  workbench.changed();
 }
 
 function keepText(event) {
   event.preventDefault();
   const name = part("name").value.trim();
-  if (name) files.put(name, new TextEncoder().encode(part("text").value));
-  part("kept").textContent = name ? `Kept as ${name}` : "A file needs a name";
+  try {
+    files.put(name, new TextEncoder().encode(part("text").value));
+    part("kept").textContent = `Kept as ${name}`;
+  } catch (error) {
+    part("kept").textContent = error.message;
+  }
   listFiles();
+  workbench.changed();
 }
 
-// The names of modules, from the first file that is a map.
+// The names of modules, from the bench's map, or from the first file that is a map.
 async function names() {
-  for (const name of files.names().filter((it) => !it.startsWith("examples/"))) {
+  const own = files.names().filter((it) => !it.startsWith("examples/"));
+  for (const name of [MAP, ...own].filter((it) => files.has(it))) {
     const text = textOf(await files.read(name));
     if (text?.startsWith("sancus-map 1\n")) return readMap(text);
   }
@@ -99,53 +98,12 @@ async function names() {
 
 // ---- runs
 
-function outputOf(ran) {
-  if (!ran.out.length) return [];
-  const text = ran.out.length > MOST_BYTES ? null : textOf(ran.out);
-  if (text === null) return [element("p", `${ran.out.length} bytes, not shown here: keep them by > NAME`, "ended")];
-  const lines = text.split("\n");
-  const list = element("pre", lines.slice(0, MOST_LINES).join("\n"));
-  list.tabIndex = 0;
-  const more = lines.length - 1 - MOST_LINES;
-  return more > 0 ? [list, element("p", `${more} more lines, not shown here: keep them by > NAME`, "ended")] : [list];
-}
-
 function endingOf(ran, to) {
   if (ran.trap) return element("p", `The module trapped: ${ran.trap}`, "ended bad");
   if (ran.full) return element("p", "The run was ended: it had written too much to keep", "ended bad");
   if (ran.ended) return element("p", "The run was ended", "ended bad");
   const kept = to ? `; ${ran.out.length} bytes kept as ${to}` : "";
   return element("p", `status ${ran.status}${kept}`, ran.status ? "ended bad" : "ended");
-}
-
-function number(label, value) {
-  const made = element("input");
-  made.type = "number";
-  made.min = 0;
-  made.value = value;
-  const whole = element("label", `${label} `);
-  whole.append(made);
-  return [whole, made];
-}
-
-// The timeline of a trace, with two fields for the cycles that it shows.
-async function timeline(text, width) {
-  const box = element("div", "", "picture");
-  const last = Number(/^end (\d+)/m.exec(text)?.[1] ?? 0);
-  const [fromLabel, from] = number("Cycles from", 0);
-  const [toLabel, to] = number("to", last);
-  const map = await names();
-  const draw = () => {
-    box.innerHTML = svg(text, { title: "Timeline", names: map, width, from: Number(from.value), to: Number(to.value) });
-  };
-  draw();
-  const form = element("form");
-  form.onsubmit = (event) => {
-    event.preventDefault();
-    draw();
-  };
-  form.append(fromLabel, toLabel, element("button", "Draw"));
-  return [box, form];
 }
 
 function comparison(text) {
@@ -160,20 +118,86 @@ function comparison(text) {
     : "The trace before this one is the same", "ended")];
 }
 
-async function showRun(line, to, ran) {
-  const box = element("article", "", "run");
-  const text = ran.out.length > MOST_BYTES ? null : textOf(ran.out);
-  box.append(element("h3", `sancus ${line}${to ? ` > ${to}` : ""}`), ...(to ? [] : outputOf(ran)));
-  if (ran.err) box.append(element("pre", ran.err));
-  box.append(endingOf(ran, to));
-  part("runs").prepend(box);
-  if (text && isTrace(text) && /^end /m.test(text)) {
-    box.append(...comparison(text), ...await timeline(text, box.clientWidth));
-  }
+// What shows the machine in a cycle of a run, by the monitor on its image and schedule; null where the run has none.
+function lookOf({ program, words }, box) {
+  if (program !== "sancus" || !["image", "run"].includes(words[0])) return null;
+  return async (cycle) => {
+    if (words[0] === "run") {
+      const linking = ["link", words[1], ...words.slice(4)];
+      files.keep(LOOKED, (await runners.sancus.run(linking, await files.forRun(linking))).out);
+    }
+    const image = words[0] === "run" ? LOOKED : words[1];
+    files.keep(SCRIPT, new TextEncoder().encode(lookScript(cycle, "0200", 64)));
+    const asked = ["monitor", image, words[2], SCRIPT];
+    const ran = await runners.sancus.run(asked, await files.forRun(asked));
+    const written = ran.err || new TextDecoder().decode(ran.out);
+    box.replaceChildren(...lookTables(written, textOf(await files.read(image)) ?? ""));
+  };
 }
 
-// Whether the command ended well.
-async function runCommand({ words, to }) {
+async function drawTrace(command, text, box) {
+  const machine = element("div");
+  const view = new View(text, { title: "Timeline", names: await names(), width: box.clientWidth }, lookOf(command, machine));
+  return [...comparison(text), ...view.elements(), machine];
+}
+
+// The sentences of the refusals among some lines.
+function sentences(lines, words, map) {
+  return lines.filter((line) => line).flatMap((line) => {
+    const said = why(line, words);
+    const place = named(line, map).split("  ; ")[1];
+    return said ? [element("p", `${said}${place ? ` (in ${place})` : ""}`, "why")] : [];
+  });
+}
+
+async function showRun(command, ran, title) {
+  const { words, to } = command;
+  const box = element("article", "", "run");
+  const map = await names();
+  const text = ran.out.length > MOST_DRAWN ? null : textOf(ran.out);
+  const told = ["steps", "dis", "check", "balance"].includes(words[0]) ? (line) => named(line, map) : undefined;
+  box.append(element("h3", title), ...(to ? [] : output(ran.out, told)));
+  if (ran.err) box.append(element("pre", ran.err));
+  box.append(endingOf(ran, to));
+  const lines = [...ran.err.split("\n"), ...(ran.status && !to ? (text ?? "").split("\n").slice(-3) : [])];
+  box.append(...sentences(lines, words, map));
+  const refused = refusedLine(ran.err.trimEnd());
+  if (refused) workbench.refused(refused, why(ran.err.trimEnd(), words) ?? ran.err);
+  part("runs").prepend(box);
+  if (text && isTrace(text) && /^end /m.test(text)) box.append(...await drawTrace(command, text, box));
+  else if (!text && ran.out.length) box.append(element("p", "No timeline is drawn of more than 4 MiB", "ended"));
+}
+
+// Two traces side by side, with their first difference marked.
+async function showPair(title, texts) {
+  const box = element("article", "", "run");
+  const found = firstDifference(...texts);
+  const verdict = element("p", found
+    ? `The secret shows: the traces differ from line ${found.line} on, “${found.a}” and “${found.b}”.`
+    : "Nothing shows: the two traces are equal.", found ? "verdict leaks" : "verdict equal");
+  const both = element("div", "", "two");
+  box.append(element("h3", title), verdict, both);
+  part("runs").prepend(box);
+  const map = await names();
+  both.append(...texts.map((text, at) => {
+    const one = element("section");
+    const place = element("div", "", "picture");
+    one.append(place, traceList(["First secret", "Second secret"][at], text, found?.line));
+    const how = { title: ["First secret", "Second secret"][at], names: map, first: found?.cycle ?? null };
+    place.innerHTML = picture(read(text), { ...how, width: Math.max(both.clientWidth / 2 - 20, 280) });
+    return one;
+  }));
+}
+
+function busy(is) {
+  part("end").disabled = !is;
+  part("go").disabled = is;
+  workbench.busy(is);
+}
+
+// What a command gave, with its output kept where it says so.
+async function execute({ program, words, to }) {
+  if (!runners[program]) throw new Error(`${program} is not here: its module is not in release/`);
   const content = await files.forRun(words);
   const begun = performance.now();
   const seconds = () => `${((performance.now() - begun) / 1000).toFixed(2)} s`;
@@ -182,27 +206,46 @@ async function runCommand({ words, to }) {
     part("state").textContent = `Running: ${lines.toLocaleString("en")} lines so far, ${seconds()}`;
   };
   const clock = setInterval(tell, 200);
-  part("end").disabled = false;
-  part("go").disabled = true;
-  const ran = await runner.run(words, content, (count) => (lines = count));
+  busy(true);
+  const ran = await runners[program].run(words, content, (count) => (lines = count));
   clearInterval(clock);
-  part("end").disabled = true;
-  part("go").disabled = false;
+  busy(false);
   part("state").textContent = `Done in ${seconds()}`;
-  if (to && !ran.trap && !ran.ended) {
-    files.put(to, ran.out);
+  const name = to ?? (words[0] === "map" && ran.status === 0 ? MAP : null);
+  if (name && !ran.trap && !ran.ended) {
+    files.keep(name, ran.out);
     listFiles();
   }
-  await showRun(words.join(" "), to, ran);
-  return ran.status === 0;
+  return ran;
 }
 
-async function runLine(line) {
+const titleOf = ({ program, words, to }) => `${program} ${words.join(" ")}${to ? ` > ${to}` : ""}`;
+
+// Does commands one after another until one does not end well; of the `quiet` first ones only a fault is shown.
+async function runLine(line, quiet = 0) {
   const commands = commandsOf(line);
   const fault = commands.find((it) => it.fault)?.fault;
   if (fault) return void (part("state").textContent = fault);
-  for (const command of commands) if (!await runCommand(command)) return;
+  for (const [at, command] of commands.entries()) {
+    const ran = await execute(command);
+    if (at >= quiet || ran.status !== 0) await showRun(command, ran, titleOf(command));
+    if (ran.status !== 0) return false;
+  }
+  return true;
 }
+
+// A button of the bench: what its files have to become first, and its command.
+async function runAction({ name, steps, command }) {
+  const all = [...steps, command];
+  const isPair = name === "Two secrets";
+  const done = await runLine(all.join(" && "), isPair ? all.length : steps.length);
+  if (done && isPair) {
+    const traces = ["bench/first.trace", "bench/second.trace"];
+    showPair(`sancus ${command}`, await Promise.all(traces.map(async (it) => textOf(await files.read(it)))));
+  }
+}
+
+const told = (act) => act.catch((error) => (part("state").textContent = error.message));
 
 function submit(event) {
   event.preventDefault();
@@ -211,7 +254,8 @@ function submit(event) {
   tried.push(line);
   back = 0;
   part("line").value = "";
-  runLine(line).catch((error) => (part("state").textContent = error.message));
+  workbench.command = line;
+  told(runLine(line));
 }
 
 // The arrows go through the lines before.
@@ -226,9 +270,15 @@ function recall(event) {
 function listen() {
   part("prompt").onsubmit = submit;
   part("line").onkeydown = recall;
-  part("end").onclick = () => runner.end();
+  part("end").onclick = () => Object.values(runners).forEach((it) => it.end());
   part("editor").onsubmit = keepText;
   part("chosen").onchange = () => addFiles(part("chosen").files);
+  part("text").addEventListener("beforeinput", (event) => {
+    const more = event.data ?? event.dataTransfer?.getData("text/plain") ?? "";
+    if (part("text").value.length + more.length <= MOST_BYTES) return;
+    event.preventDefault();
+    part("kept").textContent = "Nothing was put in: a text has at most 1,048,576 bytes";
+  });
   addEventListener("dragover", (event) => {
     event.preventDefault();
     document.body.classList.add("drop");
@@ -241,25 +291,40 @@ function listen() {
   });
 }
 
+function showModules() {
+  part("modules").replaceChildren(...items(Object.entries(MODULES).map(([name, { size, sha256, version }]) =>
+    element("span", `${name} ${version}: release/${name}.wasm, ${size.toLocaleString("en")} bytes, SHA-256 ${sha256}`))));
+}
+
+// The second program, once the page answers: it is not waited for.
+async function startLab() {
+  if (!MODULES["sancus-lab"]) return workbench.lab([]);
+  runners["sancus-lab"] = new Runner(await loadModule("sancus-lab"));
+  const ran = await runners["sancus-lab"].run(["--help"], new Map());
+  const help = new TextDecoder().decode(ran.out);
+  workbench.lab([...help.matchAll(/^ {2}([a-z]+) {2,}/gm)].map((match) => match[1]));
+}
+
 async function start() {
   files = await Files.listed();
-  runner = new Runner(await loadModule());
+  [runners.sancus] = await Promise.all([loadModule().then((it) => new Runner(it)), loadReasons()]);
+  workbench = new Workbench(files, { act: (action) => told(runAction(action)), listFiles, runner: runners.sancus });
+  await workbench.start();
   listFiles();
   part("commands").replaceChildren(...items(COMMANDS.map((line) => button(line, () => {
     part("line").value = line;
     part("line").focus();
   }))));
-  part("legend").replaceChildren(...LEGEND.map(([kind, text]) => {
-    const item = element("li", text);
-    item.prepend(element("span", "", `key ${kind}`));
-    return item;
-  }));
+  showLegend(part("legend"));
+  showModules();
   listen();
   part("note").remove();
-  part("line").focus();
+  part("line").focus({ preventScroll: true });
   document.body.dataset.ready = "yes";
+  await startLab();
+  document.body.dataset.lab = "yes";
 }
 
 start().catch((error) => {
-  part("note").textContent = `The machine could not be started: ${error.message}`;
+  (part("note") ?? part("state")).textContent = `The machine could not be started: ${error.message}`;
 });

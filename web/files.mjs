@@ -9,6 +9,8 @@ export class Files {
   // Content by name: null for a file that was not fetched yet.
   #content = new Map();
   #top;
+  // The names of those that the reader put here.
+  #own = new Set();
 
   constructor(names, top = new URL("../", import.meta.url)) {
     this.#top = top;
@@ -35,6 +37,11 @@ export class Files {
       throw new Error(`${plain} has ${bytes.length.toLocaleString("en")} bytes; at most 1,048,576 are kept`);
     }
     this.#content.set(plain, bytes);
+    this.#own.add(plain);
+  }
+
+  own() {
+    return [...this.#own].map((name) => [name, this.#content.get(name)]);
   }
 
   // What a command wrote, which may be larger than what a command reads.

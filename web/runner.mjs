@@ -4,7 +4,8 @@ import { joined } from "./host.mjs";
 // More bytes than these are not kept: the run is ended.
 const MOST = 1 << 28;
 
-export async function loadModule(url = new URL("../release/sancus.wasm", import.meta.url)) {
+export async function loadModule(program = "sancus") {
+  const url = new URL(`../release/${program}.wasm`, import.meta.url);
   const answer = await fetch(url);
   if (!answer.ok) throw new Error(`${url} could not be read (${answer.status}): web/build.sh makes it`);
   return WebAssembly.compile(await answer.arrayBuffer());

@@ -124,15 +124,24 @@ export function firstDifference(one, other) {
   return null;
 }
 
-// The names of a map: lines `module ID NAME ..` and `entry AAAA ID K NAME`, after a first line `sancus-map 1`.
+// The names of a map: lines `module ID NAME ..`, `entry AAAA ID K NAME`, `part START END ..` and `symbol AAAA ID KIND OBJECT
+// NAME`, after a first line `sancus-map 1`. `nameAt` gives the symbol at or before an address of its part.
 export function readMap(text) {
   const lines = text.split("\n");
   if (lines[0] !== "sancus-map 1") throw new Error("not a map: its first line is not `sancus-map 1`");
-  const names = { modules: new Map(), places: new Map() };
+  const names = { modules: new Map(), places: new Map(), nameAt };
+  const [parts, symbols] = [[], []];
+  function nameAt(address) {
+    const [start] = parts.find(([from, to]) => from <= address && address < to) ?? [];
+    const near = symbols.filter(([at]) => at >= start && at <= address).sort((a, b) => a[0] - b[0]).at(-1);
+    return near && near[1] + (near[0] === address ? "" : `+${address - near[0]}`);
+  }
   for (const line of lines.slice(1)) {
     const words = line.split(" ");
     if (words[0] === "module") names.modules.set(Number(words[1]), words[2]);
     if (words[0] === "entry") names.places.set(words[1], words[4]);
+    if (words[0] === "part") parts.push([parseInt(words[1], 16), parseInt(words[2], 16)]);
+    if (words[0] === "symbol") symbols.push([parseInt(words[1], 16), words[5]]);
   }
   return names;
 }
@@ -147,11 +156,11 @@ const TELLS = {
   active: "a module is active",
   held: "a module is put away",
 };
-const STYLE = `
+export const STYLE = `
 .t{font:12px sans-serif;color:#1b1f24;background:#fff}.t text{fill:currentColor}.t .axis{stroke:#8a929b;stroke-width:1}
 .t .outside{fill:#7d8792}.t .open{fill:#b45f06}.t .accept{fill:#c0392b}
 .t .padding{fill:#c3c9d0}.t .active{fill:#1f5fa8}.t .held{fill:#9dbfe4}
-.t .padding,.t .held{stroke:#6b747e;stroke-width:.8}
+.t .padding,.t .held{stroke:#6b747e;stroke-width:.8}.t .cursor{stroke:currentColor;stroke-dasharray:3 2}
 .t .mark{stroke:#c0392b;stroke-width:1.5}.t .stop{stroke:currentColor;stroke-width:2}.t .first{fill:#ffe08a}
 @media (prefers-color-scheme:dark){.t{color:#e4e7eb;background:#15181c}
 .t .outside{fill:#8b95a1}.t .open{fill:#e59b3c}.t .accept{fill:#ff7b6b}
@@ -172,16 +181,20 @@ function stepOf(cycles, steps) {
 }
 
 class Picture {
-  constructor(lines, { title = "", names = null, width = 900, from = 0, to = null, first = null, legend = false }) {
+  constructor(lines, options) {
+    const { title = "", names = null, width = 900, from = 0, to = null, first = null, legend = false } = options;
     this.hasLegend = legend;
+    this.hasStyle = options.style ?? true;
+    this.cursor = options.cursor ?? null;
+    const all = spans(lines);
     this.names = names;
     this.title = title;
     this.first = first;
     this.from = from;
     this.to = Math.max(to ?? lines.at(-1)?.cycle ?? 0, from + 1);
     this.lines = lines.filter((line) => line.cycle >= from && line.cycle <= this.to);
-    this.spans = spans(lines).filter((span) => span.from < this.to && span.to > from);
-    this.lanes = [...new Set([0, ...spans(lines).map((span) => span.lane)])].sort((a, b) => a - b);
+    this.spans = all.filter((span) => span.from < this.to && span.to > from);
+    this.lanes = [...new Set([0, ...all.map((span) => span.lane)])].sort((a, b) => a - b);
     this.left = Math.max(...this.lanes.map((lane) => this.laneName(lane).length), 8) * 7 + 14;
     this.right = Math.max(width - 16, this.left + 40);
     this.width = width;
@@ -198,6 +211,12 @@ class Picture {
   x(cycle) {
     const part = (Math.min(Math.max(cycle, this.from), this.to) - this.from) / (this.to - this.from);
     return Number((this.left + (this.right - this.left) * part).toFixed(1));
+  }
+
+  // The cycle at a place of the picture.
+  cycleAt(x) {
+    const part = (x - this.left) / (this.right - this.left);
+    return Math.floor(Math.min(Math.max(this.from + (this.to - this.from) * part, this.from), this.to));
   }
 
   y(lane) {
@@ -276,6 +295,12 @@ class Picture {
     return [`<rect class="first" x="${x}" y="${TOP - 6}" width="8" height="${this.height - TOP - 16}"/>`];
   }
 
+  cursorLine() {
+    if (this.cursor === null || this.cursor < this.from || this.cursor > this.to) return [];
+    const x = this.x(this.cursor);
+    return [`<line class="cursor" x1="${x}" x2="${x}" y1="${TOP - 8}" y2="${this.height - 22}"/>`];
+  }
+
   toString() {
     const bottom = TOP + this.lanes.length * ROW;
     const body = this.spans.length + this.lines.length > MOST
@@ -287,12 +312,13 @@ class Picture {
         ...this.marks(["hide", "irq", "protect", "close", "stop"], TOP - 8, TOP - 4, bottom - 6),
         ...(this.sent ? this.marks(["out"], bottom + 24, bottom, bottom + 10) : []),
         ...this.axis(),
+        ...this.cursorLine(),
         ...(this.hasLegend ? this.legend() : []),
       ];
     return [
       `<svg xmlns="http://www.w3.org/2000/svg" class="t" role="img" aria-label="${escape(this.title || "Timeline")}"`
         + ` width="${this.width}" height="${this.height}" viewBox="0 0 ${this.width} ${this.height}">`,
-      `<style>${STYLE}</style>`,
+      ...(this.hasStyle ? [`<style>${STYLE}</style>`] : []),
       `<text x="6" y="16" font-weight="bold">${escape(this.title)}</text>`,
       ...body,
       "</svg>",
@@ -305,5 +331,8 @@ class Picture {
 export function svg(text, options = {}) {
   return String(new Picture(read(text), options));
 }
+
+// The same for lines that were read, and for a page, which has the styles already.
+export const picture = (lines, options) => new Picture(lines, { ...options, style: false });
 
 export const LEGEND = Object.entries(TELLS);

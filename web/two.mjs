@@ -1,12 +1,12 @@
 // Two secrets: the images of examples/channel, an interrupt at the cycle of the slider, and what an observer sees.
 import { Files } from "./files.mjs";
 import { loadModule, Runner } from "./runner.mjs";
-import { firstDifference, LEGEND, svg } from "./trace.mjs";
+import { element, part, showLegend, traceList } from "./elements.mjs";
+import { firstDifference, picture, read } from "./trace.mjs";
 
 const KINDS = ["plain", "module"];
 const SECRETS = [0, 1];
 const CYCLES = 60;
-const part = (id) => document.getElementById(id);
 const image = (kind, secret) => `examples/channel/${kind}_${secret}.img`;
 const files = new Files(KINDS.flatMap((kind) => SECRETS.map((secret) => image(kind, secret))));
 // What was run already: traces of both secrets by kind and cycle.
@@ -32,25 +32,9 @@ async function traces(kind, cycle) {
   return known.get(key);
 }
 
-function element(tag, text, className = "") {
-  const made = document.createElement(tag);
-  made.textContent = text;
-  made.className = className;
-  return made;
-}
-
 function showTraces(kind, both, found) {
-  part(`${kind}-traces`).replaceChildren(...both.map((text, secret) => {
-    const box = element("div", "");
-    const list = element("pre", "");
-    list.tabIndex = 0;
-    list.setAttribute("aria-label", `Trace of secret ${secret}`);
-    text.trimEnd().split("\n").forEach((line, at) => {
-      list.append(element("span", line, at + 1 === found?.line ? "differs" : ""));
-    });
-    box.append(element("h3", `Trace of secret ${secret}`), list);
-    return box;
-  }));
+  const lists = both.map((text, secret) => traceList(`Trace of secret ${secret}`, text, found?.line));
+  part(`${kind}-traces`).replaceChildren(...lists);
 }
 
 function show(kind, cycle, both) {
@@ -63,7 +47,7 @@ function show(kind, cycle, both) {
   for (const secret of SECRETS) {
     const place = part(`${kind}-${secret}`);
     const how = { title: `Secret ${secret}`, width: place.clientWidth, first: found?.cycle ?? null };
-    place.innerHTML = svg(both[secret], how);
+    place.innerHTML = picture(read(both[secret]), how);
   }
   showTraces(kind, both, found);
   for (const cell of part(`${kind}-cells`).children) {
@@ -102,11 +86,7 @@ async function start() {
   await update();
   part("cycle").oninput = update;
   part("note").remove();
-  part("legend").replaceChildren(...LEGEND.map(([kind, text]) => {
-    const item = element("li", text);
-    item.prepend(element("span", "", `key ${kind}`));
-    return item;
-  }));
+  showLegend(part("legend"));
   part("code").textContent = await output(["dis", image("module", 0), "0300", "0326"]);
   for (const kind of KINDS) await fillCells(kind);
   await update();

@@ -65,8 +65,8 @@ same("a title is no markup", picture.includes("&lt;a &amp; b&gt;") && !picture.i
 same("the difference is marked", /class="first"/.test(picture), true);
 const cut = svg(INSIDE.join("\n"), { from: 12, to: 14 });
 same("a window of cycles", cut.match(/<rect class="(?:active|padding|open)"/g).length, 2);
-const WORDS = { words: ["asm", "a.txt"], to: "b.o", fault: null };
-const NOTHING = { words: [], to: null, fault: null };
+const WORDS = { words: ["asm", "a.txt"], to: "b.o", fault: null, program: "sancus" };
+const NOTHING = { words: [], to: null, fault: null, program: "sancus" };
 same("a line of the prompt", commandsOf("  ./sancus asm a.txt >b.o "), [WORDS]);
 same("two commands", commandsOf("asm a.txt > b.o && ./sancus asm a.txt > b.o"), [WORDS, WORDS]);
 same("no word at all", commandsOf(""), [NOTHING]);
