@@ -137,7 +137,11 @@ function lookOf({ program, words }, box) {
 
 async function drawTrace(command, text, box) {
   const machine = element("div");
-  const view = new View(text, { title: "Timeline", names: await names(), width: box.clientWidth }, lookOf(command, machine));
+  const how = { title: "Timeline", names: await names(), width: box.clientWidth };
+  const { view: first } = workbench;
+  const isFirst = part("runs").querySelectorAll("svg").length === 0;
+  const moved = (it) => (workbench.view = it);
+  const view = new View(text, how, { look: lookOf(command, machine), moved, view: isFirst ? first : null });
   return [...comparison(text), ...view.elements(), machine];
 }
 
@@ -237,6 +241,7 @@ async function runLine(line, quiet = 0) {
 // A button of the bench: what its files have to become first, and its command.
 async function runAction({ name, steps, command }) {
   const all = [...steps, command];
+  workbench.command = all.join(" && ");
   const isPair = name === "Two secrets";
   const done = await runLine(all.join(" && "), isPair ? all.length : steps.length);
   if (done && isPair) {

@@ -12,20 +12,23 @@ export class View {
   #lines;
   #how;
   #look;
+  #moved;
   #drawn;
   #last;
   cursor = 0;
 
-  // `look(cycle)` shows the machine in a cycle; where it is null there is no such button.
-  constructor(text, how, look) {
-    [this.#lines, this.#how, this.#look] = [read(text), how, look];
+  // `look(cycle)` shows the machine in a cycle; where it is null there is no such button. `moved` is told each view, and
+  // `view` is the first.
+  constructor(text, how, { look = null, moved = () => {}, view = null }) {
+    [this.#lines, this.#how, this.#look, this.#moved] = [read(text), how, look, moved];
     this.#last = Math.max(this.#lines.at(-1).cycle, 1);
     this.box = element("div", "", "picture");
     Object.assign(this.box, { tabIndex: 0, ariaLabel: HELP, role: "group" });
     this.told = element("p", "", "told");
     this.told.setAttribute("role", "status");
-    [this.fromLabel, this.from] = number("Cycles from", 0);
-    [this.toLabel, this.to] = number("to", this.#last);
+    this.cursor = Math.min(view?.cursor ?? 0, this.#last);
+    [this.fromLabel, this.from] = number("Cycles from", view?.from ?? 0);
+    [this.toLabel, this.to] = number("to", view?.to ?? this.#last);
     this.form = element("form");
     this.form.onsubmit = (event) => {
       event.preventDefault();
@@ -46,6 +49,7 @@ export class View {
     const [from, to] = [Number(this.from.value), Number(this.to.value)];
     this.#drawn = picture(this.#lines, { ...this.#how, from, to, cursor: this.cursor });
     this.box.innerHTML = this.#drawn;
+    this.#moved({ from, to, cursor: this.cursor });
   }
 
   window(from, to) {

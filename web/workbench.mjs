@@ -24,6 +24,8 @@ export class Workbench {
   #busy = false;
   #saving = null;
   command = "";
+  // What the newest timeline shows, {from, to, cursor}, or what a link says that the first is to show.
+  view = null;
 
   constructor(files, { act, listFiles, runner }) {
     [this.#files, this.#act, this.#listFiles, this.#runner] = [files, act, listFiles, runner];
@@ -49,8 +51,9 @@ export class Workbench {
 
   async #open() {
     try {
-      const bench = await ofFragment(location.hash) ?? kept.load();
-      if (bench) return this.set(bench, "");
+      const [linked, own] = [await ofFragment(location.hash), kept.load()];
+      if (linked) return this.set(linked);
+      if (own) return this.set({ ...own, command: "", view: null });
     } catch (error) {
       part("shared").textContent = `The bench could not be opened: ${error.message}`;
     }
@@ -85,7 +88,7 @@ export class Workbench {
     ];
     if (it.challenges) panes.find(({ role }) => role === "schedule").text = await this.#challenge(it.challenges);
     const fields = Object.fromEntries(Object.entries(FIELDS).map(([name, [, value]]) => [name, value]));
-    this.set({ panes, fields: { ...fields, cycles: it.cycles }, files: [], command: "", example: at });
+    this.set({ panes, fields: { ...fields, cycles: it.cycles }, files: [], command: "", view: null, example: at });
   }
 
   set(bench) {
@@ -93,6 +96,7 @@ export class Workbench {
     for (const [name, value] of Object.entries(bench.fields)) this.#inputs[name].value = value;
     for (const [name, bytes] of filesOfText(bench.files)) this.#files.put(name, bytes);
     this.command = bench.command;
+    this.view = bench.view;
     part("line").value = bench.command;
     part("example").selectedIndex = bench.example ?? -1;
     part("task").textContent = this.#examples[bench.example]?.task ?? "";
@@ -103,7 +107,8 @@ export class Workbench {
   state() {
     const fields = Object.fromEntries(Object.entries(this.#inputs).map(([name, { value }]) => [name, value]));
     const { selectedIndex: example } = part("example");
-    return { version: 1, panes: this.#panes.list(), fields, files: filesAsText(this.#files.own()), command: this.command, example };
+    const files = filesAsText(this.#files.own());
+    return { version: 1, panes: this.#panes.list(), fields, files, command: this.command, view: this.view, example };
   }
 
   // The texts go among the files, the buttons get their commands, and the browser keeps the bench.
