@@ -1,10 +1,41 @@
 // The buttons of the Bench as command lines, as the prompt takes them.
 const FOLDER = "bench/";
+// The map of what is linked, until a text is changed.
+export const MAP = `${FOLDER}bench.map`;
 const plain = (name) => name.replace(/[^\w.-]+/g, "_");
 const object = (name) => (name.endsWith(".o") ? name : `${FOLDER}${plain(name).replace(/\.\w+$/, "")}.o`);
 
 // The name under which a pane's text stands among the files.
 export const fileOf = ({ name }) => FOLDER + plain(name);
+
+const ALWAYS = ["schedule", "script", "arms", "terms"];
+const lastOf = (path) => path.split("/").at(-1);
+
+// The texts of an example of web/examples.json. `read` gives the text of a file, and `challenge` the schedule that a
+// vendor's challenges make.
+export async function panesOf(example, read, challenge) {
+  const isObject = (path) => path.endsWith(".o");
+  const source = async (path) => ({
+    role: "source", name: isObject(path) ? path : lastOf(path), text: isObject(path) ? "" : await read(path),
+  });
+  const one = async (role, name) => ({ role, name, text: example[role] ? await read(example[role]) : "" });
+  const panes = await Promise.all([
+    ...example.sources.map(source),
+    one("other", example.other ? lastOf(example.other) : "other.txt"), one("layout", "layout.toml"),
+    ...ALWAYS.map((role) => one(role, `${role}.txt`)),
+  ]);
+  if (example.challenges) panes.find(({ role }) => role === "schedule").text = await challenge(example.challenges);
+  return panes;
+}
+
+// The fields of the Bench: label and first value.
+export const FIELDS = {
+  cycles: ["Cycles", "100"], id: ["Module", "1"], line: ["Sweep line", "0"], from: ["from cycle", "0"],
+  to: ["to cycle", "40"], start: ["Disassemble from", "0200"], end: ["to", "0220"],
+};
+
+export const fieldsOf = (example) =>
+  Object.fromEntries(Object.entries(FIELDS).map(([name, [, value]]) => [name, example[name] ?? value]));
 
 // [name, the steps before it, its own command]. `panes` are {role, name, text}; a source whose name ends in .o is an
 // object among the files, and the pane `other` stands in place of the last source for the second secret.

@@ -1,4 +1,5 @@
 // The Bench: a prompt for the programs' commands, the files that they read, what they write, and timelines of traces.
+import { MAP } from "./actions.mjs";
 import { commandsOf } from "./command.mjs";
 import { button, element, items, part, showLegend, textOf, traceList } from "./elements.mjs";
 import { Files, MOST_BYTES } from "./files.mjs";
@@ -28,7 +29,6 @@ const COMMANDS = [
     + " examples/attestation/challenges.txt trace.txt",
   "make 1",
 ];
-const MAP = "bench/bench.map";
 const SCRIPT = "bench/look.txt";
 const LOOKED = "bench/look.img";
 const MOST_DRAWN = 1 << 22;

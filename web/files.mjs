@@ -40,6 +40,11 @@ export class Files {
     this.#own.add(plain);
   }
 
+  // Leaves out all whose names begin so.
+  drop(start) {
+    for (const name of this.#content.keys()) if (name.startsWith(start)) this.#content.delete(name);
+  }
+
   own() {
     return [...this.#own].map((name) => [name, this.#content.get(name)]);
   }

@@ -16,7 +16,8 @@ class Pane {
     this.gutter = element("pre", "", "gutter");
     this.gutter.setAttribute("aria-hidden", "true");
     this.area = element("textarea");
-    Object.assign(this.area, { spellcheck: false, wrap: "off", value: text, rows: role === "source" ? 14 : 6 });
+    Object.assign(this.area, { spellcheck: false, wrap: "off", value: text });
+    this.area.rows = Math.min(Math.max(text.split("\n").length + 1, 3), role === "source" ? 14 : 8);
     this.said = element("p", "", "said");
     this.said.setAttribute("role", "status");
     const label = element("label", `${TITLES[role]}: ${name}`);

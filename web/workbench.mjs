@@ -1,16 +1,10 @@
 // The part of the Bench with the texts, the examples and the buttons.
-import { actionsOf, fileOf } from "./actions.mjs";
+import { actionsOf, FIELDS, fieldsOf, fileOf, MAP, panesOf } from "./actions.mjs";
 import { button, element, field, part } from "./elements.mjs";
 import { Panes } from "./panes.mjs";
 import { checked, download, filesAsText, filesOfText, fragmentOf, kept, ofFragment } from "./share.mjs";
 
-const FIELDS = {
-  cycles: ["Cycles", "100"], id: ["Module", "1"], line: ["Sweep line", "0"], from: ["from cycle", "0"],
-  to: ["to cycle", "40"], start: ["Disassemble from", "0200"], end: ["to", "0220"],
-};
-const ALWAYS = ["schedule", "script", "arms", "terms"];
-const nameOf = (path) => path.split("/").at(-1);
-const inTime = 400;
+const PAUSE = 400;
 
 export class Workbench {
   #files;
@@ -64,10 +58,6 @@ export class Workbench {
     return act.catch((error) => (part("shared").textContent = error.message));
   }
 
-  async #text(path) {
-    return path ? new TextDecoder().decode(await this.#files.read(path)) : "";
-  }
-
   // The schedule that a vendor's challenges make.
   async #challenge(path) {
     const words = ["challenge", path];
@@ -76,22 +66,14 @@ export class Workbench {
 
   async #example(at) {
     const it = this.#examples[at];
-    const texts = async (role, path) => {
-      const isObject = path?.endsWith(".o");
-      if (isObject) await this.#files.read(path);
-      return { role, name: isObject ? path : path ? nameOf(path) : `${role}.txt`, text: isObject ? "" : await this.#text(path) };
-    };
-    const panes = [
-      ...await Promise.all(it.sources.map((path) => texts("source", path))),
-      await texts("other", it.other), { ...await texts("layout", it.layout), name: "layout.toml" },
-      ...await Promise.all(ALWAYS.map(async (role) => ({ ...await texts(role, it[role]), name: `${role}.txt` }))),
-    ];
-    if (it.challenges) panes.find(({ role }) => role === "schedule").text = await this.#challenge(it.challenges);
-    const fields = Object.fromEntries(Object.entries(FIELDS).map(([name, [, value]]) => [name, value]));
-    this.set({ panes, fields: { ...fields, cycles: it.cycles }, files: [], command: "", view: null, example: at });
+    for (const path of it.sources.filter((name) => name.endsWith(".o"))) await this.#files.read(path);
+    const read = async (path) => new TextDecoder().decode(await this.#files.read(path));
+    const panes = await panesOf(it, read, (path) => this.#challenge(path));
+    this.set({ panes, fields: fieldsOf(it), files: [], command: "", view: null, example: at });
   }
 
   set(bench) {
+    this.#files.drop("bench/");
     this.#panes.set(bench.panes);
     for (const [name, value] of Object.entries(bench.fields)) this.#inputs[name].value = value;
     for (const [name, bytes] of filesOfText(bench.files)) this.#files.put(name, bytes);
@@ -114,12 +96,13 @@ export class Workbench {
   // The texts go among the files, the buttons get their commands, and the browser keeps the bench.
   changed() {
     const state = this.state();
+    this.#files.drop(MAP);
     for (const pane of state.panes) {
       if (!pane.name.endsWith(".o")) this.#files.keep(fileOf(pane), new TextEncoder().encode(pane.text));
     }
     this.#showActions(state);
     clearTimeout(this.#saving);
-    this.#saving = setTimeout(() => this.#save(state), inTime);
+    this.#saving = setTimeout(() => this.#save(state), PAUSE);
   }
 
   #save(state) {
