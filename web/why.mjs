@@ -12,9 +12,9 @@ export const useReasons = (found) => (tables = found);
 function told(text, more, ...lists) {
   for (const [form, sentence] of lists.flatMap(Object.entries)) {
     const pattern = form.replace(FIELD, (name) => `(?<${name}>${name === "NAME" ? ".+" : "[^ ]+"})`);
-    const fields = new RegExp(`^${pattern}$`).exec(text)?.groups;
-    if (!fields) continue;
-    const all = { ...fields, ...more(fields) };
+    const found = new RegExp(`^${pattern}$`).exec(text);
+    if (!found) continue;
+    const all = { ...found.groups, ...more(found.groups ?? {}) };
     return sentence.replace(/\{(\w+)\}/g, (_, name) => all[name] ?? name);
   }
   return null;

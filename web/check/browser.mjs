@@ -10,6 +10,7 @@ import { fileURLToPath } from "node:url";
 import { casesOf, filesOf } from "./cases.mjs";
 import { Chromium } from "./chromium.mjs";
 import { contrastFaults } from "./contrast.mjs";
+import { check, end } from "./count.mjs";
 import { isSame, Native } from "./native.mjs";
 
 const top = fileURLToPath(new URL("../../", import.meta.url));
@@ -27,17 +28,6 @@ end
 const LOOKS = [
   ["light", 1240, "light"], ["dark", 1240, "dark"], ["narrow", 360, "light"], ["narrow_dark", 360, "dark"],
 ];
-let passed = 0;
-let failed = 0;
-
-function check(what, holds) {
-  if (holds) passed++;
-  else {
-    failed++;
-    console.log(`failed: ${what}`);
-  }
-}
-
 const freePort = () => new Promise((resolve) => {
   const probe = createServer().listen(0, "127.0.0.1", () => {
     const { port } = probe.address();
@@ -219,5 +209,4 @@ try {
 await browser.close();
 server.kill();
 native.close();
-console.log(`${passed} passed, ${failed} failed, 0 not run`);
-process.exitCode = failed ? 1 : 0;
+end();

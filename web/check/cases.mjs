@@ -22,20 +22,22 @@ function pages(top) {
   return found;
 }
 
-// The lines of a page that begin with ./sancus in an indented block, each joined with the lines that a backslash
-// leads to.
-function linesOf(page) {
+// The lines of a page that begin with ./NAME in an indented block, each joined with the lines that a backslash leads to.
+function linesOf(page, name) {
   const joined = page.replace(/\\\n {4}/g, " ");
-  return [...joined.matchAll(/^ {4}\.\/sancus (.*)$/gm)].map((match) => match[1]);
+  return [...joined.matchAll(/^ {4}\.\/(sancus|sancus-lab) (.*)$/gm)].filter((match) => match[1] === name || name === "both")
+    .map((match) => `./${match[1]} ${match[2]}`);
 }
 
-// {cases, skipped}: the cases are {words, to}, in an order in which each file is made before it is read.
-export function casesOf(top) {
-  const lines = pages(top).flatMap((page) => linesOf(readFileSync(join(top, page), "utf8"))).map(ownPart);
+// {cases, skipped}: the cases are {words, to, program}, in an order in which each file is made before it is read; for
+// sancus-lab, those of sancus between its own, whose files it reads.
+export function casesOf(top, name = "sancus") {
+  const which = name === "sancus" ? name : "both";
+  const lines = pages(top).flatMap((page) => linesOf(readFileSync(join(top, page), "utf8"), which)).map(ownPart);
   const plain = lines.filter((line) => !SHELL.test(line));
   const refused = readFileSync(join(top, "web/check/refused.txt"), "utf8").split("\n").slice(0, -1);
   return {
-    cases: [...plain, ...refused].flatMap(commandsOf),
+    cases: [...plain, ...(name === "sancus" ? refused : [])].flatMap(commandsOf),
     skipped: lines.length - plain.length,
   };
 }

@@ -16,8 +16,8 @@ export class Native {
     writeFileSync(file, bytes);
   }
 
-  run(words) {
-    const ran = spawnSync(this.program, words, { cwd: this.room, maxBuffer: 1 << 28 });
+  run(words, program = this.program) {
+    const ran = spawnSync(program, words, { cwd: this.room, maxBuffer: 1 << 28 });
     if (ran.error) throw ran.error;
     return { status: ran.status, out: ran.stdout, err: ran.stderr.toString() };
   }

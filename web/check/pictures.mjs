@@ -1,17 +1,7 @@
 // Timelines of traces whose spans are worked out by hand, and what no trace tells.
 import { commandsOf } from "../command.mjs";
+import { end, same } from "./count.mjs";
 import { firstDifference, isTrace, read, readMap, spans, svg } from "../trace.mjs";
-
-let passed = 0;
-let failed = 0;
-
-function same(what, found, wanted) {
-  if (JSON.stringify(found) === JSON.stringify(wanted)) passed++;
-  else {
-    failed++;
-    console.log(`failed: ${what}: ${JSON.stringify(found)}`);
-  }
-}
 
 const shown = ({ lane, from, to, kind }) => `${lane} ${kind} ${from}-${to}`;
 const drawn = (lines) => spans(read(lines.join("\n"))).map(shown);
@@ -72,5 +62,4 @@ same("two commands", commandsOf("asm a.txt > b.o && ./sancus asm a.txt > b.o"), 
 same("no word at all", commandsOf(""), [NOTHING]);
 same("two names", commandsOf("image a > b c")[0].fault !== null, true);
 same("another program", commandsOf("image a - 4 | grep b")[0].fault !== null, true);
-console.log(`${passed} passed, ${failed} failed, 0 not run`);
-process.exitCode = failed ? 1 : 0;
+end();
