@@ -2,9 +2,7 @@
 // runner.
 //     node web/check/browser.mjs CHROMIUM PROGRAM [FOLDER]
 // Pictures of both pages (wide, dark, narrow) go into FOLDER where it is named.
-import { spawn } from "node:child_process";
 import { writeFileSync } from "node:fs";
-import { createServer } from "node:net";
 import { join } from "node:path";
 import { fileURLToPath } from "node:url";
 import { casesOf, filesOf } from "./cases.mjs";
@@ -12,6 +10,7 @@ import { Chromium } from "./chromium.mjs";
 import { contrastFaults } from "./contrast.mjs";
 import { check, end } from "./count.mjs";
 import { isSame, Native } from "./native.mjs";
+import { count, finished, runLine, serve, text } from "./visit.mjs";
 
 const top = fileURLToPath(new URL("../../", import.meta.url));
 const [chromium, program, folder] = process.argv.slice(2);
@@ -28,23 +27,6 @@ end
 const LOOKS = [
   ["light", 1240, "light"], ["dark", 1240, "dark"], ["narrow", 360, "light"], ["narrow_dark", 360, "dark"],
 ];
-const freePort = () => new Promise((resolve) => {
-  const probe = createServer().listen(0, "127.0.0.1", () => {
-    const { port } = probe.address();
-    probe.close(() => resolve(port));
-  });
-});
-
-async function answers(url) {
-  for (let tries = 0; tries < 100; tries++) {
-    if (await fetch(url).then((it) => it.ok, () => false)) return;
-    await new Promise((resolve) => setTimeout(resolve, 50));
-  }
-  throw new Error(`${url} does not answer`);
-}
-
-const text = (selector) => `(document.querySelector(${JSON.stringify(selector)})?.textContent ?? "")`;
-const count = (selector) => `document.querySelectorAll(${JSON.stringify(selector)}).length`;
 
 async function twoSecrets(browser, url) {
   const begun = Date.now();
@@ -63,18 +45,6 @@ async function twoSecrets(browser, url) {
   await browser.until(`${text("#chosen")} === "16" && /traces are equal/.test(${text("#plain-verdict")})`);
   check("the slider by an arrow", true);
   check("the code is shown", /0306: 2404 jeq 0x0310/.test(await browser.value(text("#code"))));
-}
-
-async function runLine(browser, line) {
-  const before = await browser.value(count(".run"));
-  await browser.value("document.getElementById('line').focus()");
-  await browser.type(line);
-  await browser.press("Enter");
-  return before;
-}
-
-async function finished(browser, before) {
-  await browser.until(`${count(".run")} > ${before} && !document.getElementById("go").disabled`);
 }
 
 async function bench(browser, url, native) {
@@ -186,14 +156,11 @@ async function looks(browser, url) {
   }
 }
 
-const port = await freePort();
-const url = `http://127.0.0.1:${port}/`;
-const server = spawn(join(top, "web/serve"), [String(port)], { stdio: "ignore" });
+const { url, stop } = await serve();
 const native = new Native(program);
 for (const [name, bytes] of filesOf(top)) native.put(name, bytes);
 const browser = await Chromium.start(chromium);
 try {
-  await answers(`${url}web/index.html`);
   await twoSecrets(browser, url);
   await bench(browser, url, native);
   await endButton(browser);
@@ -207,6 +174,6 @@ try {
   check(`${error.message}; the page complains: ${browser.faults.join("; ")}`, false);
 }
 await browser.close();
-server.kill();
+stop();
 native.close();
 end();

@@ -14,6 +14,10 @@ const KEYS = {
   ArrowLeft: { key: "ArrowLeft", code: "ArrowLeft", windowsVirtualKeyCode: 37 },
   ArrowRight: { key: "ArrowRight", code: "ArrowRight", windowsVirtualKeyCode: 39 },
   ArrowUp: { key: "ArrowUp", code: "ArrowUp", windowsVirtualKeyCode: 38 },
+  "+": { key: "+", text: "+" },
+  "-": { key: "-", text: "-" },
+  PageDown: { key: "PageDown", code: "PageDown", windowsVirtualKeyCode: 34 },
+  Home: { key: "Home", code: "Home", windowsVirtualKeyCode: 36 },
 };
 const faultOf = (details) => details.exception?.description ?? details.text;
 const pause = (time) => new Promise((resolve) => setTimeout(resolve, time));
@@ -24,9 +28,10 @@ export class Chromium {
   #session;
   #process;
   #profile = mkdtempSync(join(tmpdir(), "sancus-chromium-"));
-  // What the page complained of, and the addresses that it asked for.
+  // What the page complained of, the addresses that it asked for, and the bytes that were sent.
   faults = [];
   asked = [];
+  sent = 0;
 
   static async start(program) {
     const browser = new Chromium();
@@ -61,6 +66,7 @@ export class Chromium {
     if (method === "Runtime.exceptionThrown") this.faults.push(faultOf(params.exceptionDetails));
     if (method === "Log.entryAdded" && params.entry.level === "error") this.faults.push(params.entry.text);
     if (method === "Network.requestWillBeSent") this.asked.push(params.request.url);
+    if (method === "Network.loadingFinished") this.sent += params.encodedDataLength;
   }
 
   send(method, params = {}, session = this.#session) {
