@@ -10,7 +10,7 @@ import { Chromium } from "./chromium.mjs";
 import { contrastFaults } from "./contrast.mjs";
 import { check, end } from "./count.mjs";
 import { isSame, Native } from "./native.mjs";
-import { count, finished, runLine, serve, text } from "./visit.mjs";
+import { count, finished, inPage, runLine, serve, text } from "./visit.mjs";
 
 const top = fileURLToPath(new URL("../../", import.meta.url));
 const [chromium, program, folder] = process.argv.slice(2);
@@ -108,22 +108,6 @@ async function droppedMap(browser) {
   await browser.until(`${text(".run .ended + .ended")} === "The trace before this one is the same"`);
   check("two commands in a line", true);
 }
-
-// In the page: the cases one after another, by its own module and worker.
-const inPage = async (cases, files) => {
-  const { loadModule, Runner } = await import("/web/runner.mjs");
-  const runner = new Runner(await loadModule());
-  const bytes = (coded) => Uint8Array.from(atob(coded), (sign) => sign.charCodeAt(0));
-  const content = new Map(Object.entries(files).map(([name, coded]) => [name, bytes(coded)]));
-  const found = [];
-  for (const { words, to } of cases) {
-    const ran = await runner.run(words, content);
-    if (to) content.set(to, ran.out);
-    const out = btoa(Array.from(ran.out, (byte) => String.fromCharCode(byte)).join(""));
-    found.push({ status: ran.status, err: ran.err, out });
-  }
-  return found;
-};
 
 async function allCases(browser, native) {
   const files = filesOf(top);

@@ -43,6 +43,7 @@ export class Chromium {
     const { targetId } = targetInfos.find((it) => it.type === "page");
     browser.#session = (await browser.send("Target.attachToTarget", { targetId, flatten: true }, null)).sessionId;
     for (const domain of ["Page", "Runtime", "Log", "Network"]) await browser.send(`${domain}.enable`);
+    await browser.send("Emulation.setFocusEmulationEnabled", { enabled: true });
     return browser;
   }
 

@@ -25,3 +25,18 @@ export async function finished(browser, before) {
   await browser.until(`${count(".run")} > ${before} && !document.getElementById("go").disabled`);
 }
 
+// In the page: the cases one after another, by its own module and worker.
+export const inPage = async (cases, files) => {
+  const { loadModule, Runner } = await import("/web/runner.mjs");
+  const runner = new Runner(await loadModule());
+  const bytes = (coded) => Uint8Array.from(atob(coded), (sign) => sign.charCodeAt(0));
+  const content = new Map(Object.entries(files).map(([name, coded]) => [name, bytes(coded)]));
+  const found = [];
+  for (const { words, to } of cases) {
+    const ran = await runner.run(words, content);
+    if (to) content.set(to, ran.out);
+    const out = btoa(Array.from(ran.out, (byte) => String.fromCharCode(byte)).join(""));
+    found.push({ status: ran.status, err: ran.err, out });
+  }
+  return found;
+};
