@@ -47,8 +47,10 @@ class Firefox {
     for (let colon = this.#held.indexOf(58); colon > 0; colon = this.#held.indexOf(58)) {
       const stop = colon + 1 + Number(this.#held.subarray(0, colon));
       if (this.#held.length < stop) return;
-      const [, id, error, result] = JSON.parse(this.#held.subarray(colon + 1, stop));
+      const message = JSON.parse(this.#held.subarray(colon + 1, stop));
       this.#held = this.#held.subarray(stop);
+      // (the first one greets)
+      const [, id, error, result] = Array.isArray(message) ? message : [];
       const { resolve, reject } = this.#waiting.get(id) ?? {};
       if (error) reject?.(new Error(error.message));
       else resolve?.(result);

@@ -274,6 +274,35 @@ async function keyboard() {
   }
 }
 
+// docs/LESSON.md, step by step: its blocks are what is typed and what is shown.
+async function lesson() {
+  const page = readFileSync(`${top}docs/LESSON.md`, "utf8");
+  const blocks = [...page.matchAll(/(?:^ {4}.*\n)+/gm)].map(([block]) => block.replace(/^ {4}/gm, ""));
+  same("the lesson's blocks", blocks.length, 9);
+  const [first, pulse, interrupted, leak, inside, equal, hidden, yes, no] = blocks;
+  const pressed = async (name, part, wanted) => {
+    await press(name);
+    same(`the lesson: ${name}`, (await value(run(part))).trimEnd(), wanted.trimEnd());
+  };
+  await open();
+  await choose(PLAIN);
+  await put("schedule", "");
+  await pressed("Run", "pre", first);
+  await pressed("Two secrets", ".verdict", equal);
+  await put("schedule", pulse);
+  await pressed("Run", "pre", interrupted);
+  await pressed("Two secrets", ".verdict", leak);
+  await put("schedule", inside);
+  await pressed("Two secrets", ".verdict", equal);
+  await pressed("Run", "pre", hidden);
+  await pressed("Check", "pre", yes);
+  await put("arms", "");
+  await pressed("Check", "pre", no);
+  const there = await value('[...document.querySelectorAll("button")].map((it) => it.textContent)');
+  const told = new Set([...page.matchAll(/\*\*([A-Z][^*]*)\*\*/g)].map((match) => match[1].replace(/\s+/g, " ")));
+  for (const name of told) if (name !== "Sweep" || hasLab) check(`the lesson's button ${name}`, there.includes(name));
+}
+
 // A cold load, from nothing to the first answer.
 async function budget() {
   await browser.send("Network.clearBrowserCache");
@@ -292,7 +321,7 @@ async function budget() {
 
 try {
   await open();
-  for (const part of [buttons, labButtons, refusals, bounds, millions, links, keeping, moving, keyboard, budget]) {
+  for (const part of [buttons, labButtons, refusals, bounds, millions, links, keeping, moving, keyboard, lesson, budget]) {
     await part().catch((error) => check(`${part.name}: ${error.message}; ${browser.faults.join("; ")}`, false));
   }
   check(`no complaint: ${browser.faults.join("; ")}`, browser.faults.length === 0);
