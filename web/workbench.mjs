@@ -38,7 +38,8 @@ export class Workbench {
     part("share").onclick = () => this.#told(this.#share());
     part("export").onclick = () => download("bench.json", JSON.stringify(this.state()));
     part("import").onchange = () => this.#told(this.#import());
-    part("forget").onclick = () => this.#forget();
+    part("forget").onclick = () => this.#told(this.#forget());
+    part("offline").onclick = () => this.#told(this.#keepOffline());
     addEventListener("hashchange", () => this.#told(this.#open()));
     await this.#open();
   }
@@ -163,9 +164,20 @@ export class Workbench {
     part("shared").textContent = `Imported: ${file.name}`;
   }
 
-  #forget() {
+  // A worker of the browser keeps all files, of which it says so once it is active.
+  async #keepOffline() {
+    if (!navigator.serviceWorker) throw new Error("This browser keeps no offline copy of a page that is served without https");
+    part("shared").textContent = "The files of this page are being kept";
+    await navigator.serviceWorker.register(new URL("offline.mjs", import.meta.url));
+    await navigator.serviceWorker.ready;
+    part("shared").textContent = "This browser has an offline copy of this page";
+  }
+
+  async #forget() {
     clearTimeout(this.#saving);
     kept.forget();
+    for (const it of await navigator.serviceWorker?.getRegistrations() ?? []) await it.unregister();
+    await globalThis.caches?.delete("sancus");
     part("shared").textContent = "This browser keeps nothing of the bench until it is changed again";
   }
 }

@@ -2,7 +2,9 @@
 // runner.
 //     node web/check/browser.mjs CHROMIUM PROGRAM [FOLDER]
 // Pictures of both pages (wide, dark, narrow) go into FOLDER where it is named.
-import { writeFileSync } from "node:fs";
+import { execFileSync, spawn } from "node:child_process";
+import { mkdtempSync, rmSync, writeFileSync } from "node:fs";
+import { tmpdir } from "node:os";
 import { join } from "node:path";
 import { fileURLToPath } from "node:url";
 import { casesOf, filesOf } from "./cases.mjs";
@@ -123,6 +125,21 @@ async function allCases(browser, native) {
   });
 }
 
+// The folder of web/folder.sh, by another server, below another address.
+async function inFolder(browser) {
+  const room = mkdtempSync(join(tmpdir(), "sancus-folder-"));
+  execFileSync(`${top}web/folder.sh`, [join(room, "class")]);
+  const server = spawn("python3", ["-u", "-m", "http.server", "--bind", "127.0.0.1", "-d", room, "0"], { stdio: ["ignore", "pipe", "ignore"] });
+  const told = await new Promise((resolve) => server.stdout.once("data", (it) => resolve(it.toString())));
+  const place = `http://127.0.0.1:${/port (\d+)/.exec(told)[1]}/`;
+  await browser.open(`${place}class/web/bench.html`);
+  await finished(browser, await runLine(browser, "image examples/first.img - 4"));
+  check("a folder on any server", /^end 4 outside 0206/.test(await browser.value(text(".run pre"))));
+  server.kill();
+  rmSync(room, { recursive: true });
+  return place;
+}
+
 async function looks(browser, url) {
   for (const page of ["index", "bench"]) {
     for (const [name, width, scheme] of LOOKS) {
@@ -151,8 +168,9 @@ try {
   await droppedMap(browser);
   await allCases(browser, native);
   await looks(browser, url);
+  const place = await inFolder(browser);
   check(`no complaint: ${browser.faults.join("; ")}`, browser.faults.length === 0);
-  const elsewhere = browser.asked.filter((it) => ![url, "data:", "about:"].some((own) => it.startsWith(own)));
+  const elsewhere = browser.asked.filter((it) => ![url, place, "data:", "about:"].some((own) => it.startsWith(own)));
   check(`nothing is asked of elsewhere: ${elsewhere.join(" ")}`, elsewhere.length === 0);
 } catch (error) {
   check(`${error.message}; the page complains: ${browser.faults.join("; ")}`, false);

@@ -303,6 +303,21 @@ async function lesson() {
   for (const name of told) if (name !== "Sweep" || hasLab) check(`the lesson's button ${name}`, there.includes(name));
 }
 
+// Without its server, which is stopped here.
+async function offline() {
+  await open();
+  await value("document.getElementById('offline').click()");
+  await browser.until(`${text("#shared")} === "This browser has an offline copy of this page"`);
+  stop();
+  await open();
+  await choose("stops: read_data");
+  await press("Run");
+  same("the offline copy runs", await value(run("pre")), "0 stop ReadData pc 0200 addr 0a24 module 1\nend 0 stopped\n");
+  await value("document.getElementById('forget').click()");
+  await browser.until(`/keeps nothing/.test(${text("#shared")})`);
+  same("and is forgotten", await value("caches.keys()"), []);
+}
+
 // A cold load, from nothing to the first answer.
 async function budget() {
   await browser.send("Network.clearBrowserCache");
@@ -325,6 +340,7 @@ try {
     await part().catch((error) => check(`${part.name}: ${error.message}; ${browser.faults.join("; ")}`, false));
   }
   check(`no complaint: ${browser.faults.join("; ")}`, browser.faults.length === 0);
+  await offline();
 } catch (error) {
   check(`${error.message}; the page complains: ${browser.faults.join("; ")}`, false);
 }
