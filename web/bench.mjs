@@ -311,8 +311,8 @@ async function startLab() {
 }
 
 async function start() {
-  files = await Files.listed();
-  [runners.sancus] = await Promise.all([loadModule().then((it) => new Runner(it)), loadReasons()]);
+  const [listed, module] = await Promise.all([Files.listed(), loadModule(), loadReasons()]);
+  [files, runners.sancus] = [listed, new Runner(module)];
   workbench = new Workbench(files, { act: (action) => told(runAction(action)), listFiles, runner: runners.sancus });
   await workbench.start();
   listFiles();

@@ -1,13 +1,17 @@
 #!/usr/bin/env node
-// The size of the module, and its speed beside the native program, one after the other in one run.
-//     web/measure.mjs PROGRAM > bench/results/web.txt
+// The sizes of the modules, the first one's speed beside the native program, one after the other in one run, and the Bench
+// in a headless Chromium: from a cold load to the first answer.
+//     web/measure.mjs PROGRAM [CHROMIUM] > bench/results/web.txt
 import { spawnSync } from "node:child_process";
 import { readFileSync } from "node:fs";
 import { cpus, loadavg } from "node:os";
 import { fileURLToPath } from "node:url";
 import { gzipSync } from "node:zlib";
 import { collect } from "./host.mjs";
+import { Chromium } from "./check/chromium.mjs";
 import { Native } from "./check/native.mjs";
+import { coldLoad, serve } from "./check/visit.mjs";
+import { MODULES } from "./modules.mjs";
 
 const top = fileURLToPath(new URL("../", import.meta.url));
 const RUNS = 3;
@@ -47,7 +51,10 @@ for (const [name, bytes] of files) native.put(name, bytes);
 const commit = spawnSync("git", ["-C", top, "rev-parse", "--short", "HEAD"]).stdout.toString().trim();
 const machine = `${cpus()[0].model}, ${cpus().length} processors, load ${loadavg()[0].toFixed(1)}`;
 console.log(`${new Date().toISOString().slice(0, 16)}Z, commit ${commit}, ${machine}, node ${process.version}`);
-console.log(`release/sancus.wasm: ${bytes.length} bytes, ${gzipSync(bytes, { level: 9 }).length} with gzip`);
+for (const name of Object.keys(MODULES)) {
+  const content = readFileSync(`${top}release/${name}.wasm`);
+  console.log(`release/${name}.wasm: ${content.length} bytes, ${gzipSync(content, { level: 9 }).length} with gzip`);
+}
 console.log(`\nleast of ${RUNS} runs, ms${" ".repeat(22)}  module  native   ratio`);
 for (const [what, line] of LINES) {
   const words = line.split(" ");
@@ -57,3 +64,16 @@ for (const [what, line] of LINES) {
   console.log(what.padEnd(42) + numbers.map((it) => it.padStart(8)).join(""));
 }
 native.close();
+
+if (process.argv[3]) {
+  const { url, stop } = await serve();
+  const browser = await Chromium.start(process.argv[3]);
+  const loads = [];
+  for (let run = 0; run < RUNS; run++) loads.push(await coldLoad(browser, url));
+  const { product } = await browser.send("Browser.getVersion", {}, null);
+  await browser.close();
+  stop();
+  const times = loads.map(({ time }) => time.toFixed(0)).join(", ");
+  console.log(`\nBench in ${product} from 127.0.0.1, without a cache: first answer after ${times} ms`);
+  console.log(`sent for it, the second program included: ${Math.max(...loads.map(({ sent }) => sent))} bytes, as web/serve packs them`);
+}

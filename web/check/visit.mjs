@@ -40,3 +40,17 @@ export const inPage = async (cases, files) => {
   }
   return found;
 };
+
+// The Bench in a browser without a cache: the time of the first answer, and what was sent till then and in all.
+export async function coldLoad(browser, url) {
+  await browser.send("Network.clearBrowserCache");
+  await browser.send("Network.setCacheDisabled", { cacheDisabled: true });
+  await browser.send("Page.navigate", { url: "about:blank" });
+  browser.sent = 0;
+  const begun = performance.now();
+  await browser.open(`${url}web/bench.html`);
+  await finished(browser, await runLine(browser, "image examples/first.img - 4"));
+  const time = performance.now() - begun;
+  await browser.until("document.body.dataset.lab === 'yes'");
+  return { time, sent: browser.sent };
+}
