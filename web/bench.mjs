@@ -32,6 +32,8 @@ const COMMANDS = [
 const SCRIPT = "bench/look.txt";
 const LOOKED = "bench/look.img";
 const MOST_DRAWN = 1 << 22;
+// Where the words of a command have the number of cycles.
+const CYCLES = { image: 3, run: 3, steps: 3 };
 const tried = [];
 const runners = {};
 let back = 0;
@@ -205,13 +207,18 @@ async function execute({ program, words, to }) {
   const content = await files.forRun(words);
   const begun = performance.now();
   const seconds = () => `${((performance.now() - begun) / 1000).toFixed(2)} s`;
-  let lines = 0;
+  const shown = (number) => number.toLocaleString("en");
+  let told = "0 lines so far";
+  const last = CYCLES[words[0]] && Number(words[CYCLES[words[0]]]);
+  const progress = (lines, cycle) => {
+    told = `${shown(lines)} lines so far${cycle === null || !last ? "" : `, cycle ${shown(cycle)} of ${shown(last)}`}`;
+  };
   const tell = () => {
-    part("state").textContent = `Running: ${lines.toLocaleString("en")} lines so far, ${seconds()}`;
+    part("state").textContent = `Running: ${told}, ${seconds()}`;
   };
   const clock = setInterval(tell, 200);
   busy(true);
-  const ran = await runners[program].run(words, content, (count) => (lines = count));
+  const ran = await runners[program].run(words, content, progress);
   clearInterval(clock);
   busy(false);
   part("state").textContent = `Done in ${seconds()}`;

@@ -88,6 +88,8 @@ async function endButton(browser) {
   const before = await runLine(browser, "image sender.img - 1000000000");
   await browser.until(`/Running: [1-9][0-9,]* lines so far/.test(${text("#state")})`);
   check("the lines so far are told", true);
+  await browser.until(`/, cycle [1-9][0-9,]* of 1,000,000,000, /.test(${text("#state")})`);
+  check("and the cycle", true);
   await browser.press("Tab");
   check("the end button comes after the prompt", await browser.value("document.activeElement.id") === "end");
   await browser.press("Enter");
