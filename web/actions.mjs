@@ -32,6 +32,7 @@ export async function panesOf(example, read, challenge) {
 export const FIELDS = {
   cycles: ["Cycles", "100"], id: ["Module", "1"], line: ["Sweep line", "0"], from: ["from cycle", "0"],
   to: ["to cycle", "40"], start: ["Disassemble from", "0200"], end: ["to", "0220"],
+  mem: ["Look at memory from", "0200"],
 };
 
 export const fieldsOf = (example) =>
@@ -67,8 +68,12 @@ export function actionsOf({ panes, fields }) {
     ["Disassemble", linked, `dis ${image} ${fields.start} ${fields.end}`],
     ["Steps", linked, `sancus-lab steps ${image} ${filled("schedule")} ${cycles}`],
     ["Map", first, `sancus-lab map ${layout} ${objects.join(" ")}`],
-    ["Sweep", second, others.length ? `sancus-lab sweep ${image} ${FOLDER}other.img ${line} ${from} ${to} ${cycles}` : null],
+    ["Sweep", second,
+      others.length ? `sancus-lab sweep ${image} ${FOLDER}other.img ${line} ${from} ${to} ${cycles}` : null],
     ["Released", linked, `sancus-lab released ${image} ${id} ${FOLDER}terms.txt ${arms}`],
     ["Unroll", linked, `sancus-lab unroll ${image} ${id} ${filled("terms")}${arms === "-" ? "" : ` ${arms}`}`],
-  ].map(([name, steps, command]) => ({ name, steps, command, lab: command?.startsWith("sancus-lab ") ?? name === "Sweep" }));
+  ].map(([name, steps, command]) => {
+    const lab = command?.startsWith("sancus-lab ") ?? name === "Sweep";
+    return { name, steps, command, lab };
+  });
 }

@@ -48,7 +48,8 @@ async function openFile(name) {
   const text = bytes.length > MOST_BYTES ? null : textOf(bytes);
   part("name").value = name;
   part("text").value = text ?? "";
-  part("kept").textContent = text === null ? `${name} is no text of at most 1,048,576 bytes: ${bytes.length} bytes` : "";
+  part("kept").textContent =
+    text === null ? `${name} is no text of at most 1,048,576 bytes: ${bytes.length} bytes` : "";
 }
 
 function listFiles() {
@@ -59,7 +60,8 @@ function listFiles() {
 async function addFiles(list) {
   const said = await Promise.all([...list].map(async (file) => {
     try {
-      if (file.size > MOST_BYTES) throw new Error(`${file.size.toLocaleString("en")} bytes; at most 1,048,576 are kept`);
+      const size = file.size.toLocaleString("en");
+      if (file.size > MOST_BYTES) throw new Error(`${size} bytes; at most 1,048,576 are kept`);
       files.put(file.name, new Uint8Array(await file.arrayBuffer()));
       return { added: file.name };
     } catch (error) {
@@ -70,7 +72,8 @@ async function addFiles(list) {
   const added = said.flatMap((it) => it.added ?? []);
   const refused = said.flatMap((it) => it.refused ?? []);
   part("kept").textContent = [
-    ...(added.length ? [`Added: ${added.join(", ")}`] : []), ...(refused.length ? [`Not added: ${refused.join(", ")}`] : []),
+    ...(added.length ? [`Added: ${added.join(", ")}`] : []),
+    ...(refused.length ? [`Not added: ${refused.join(", ")}`] : []),
   ].join(". ");
   workbench.changed();
 }
@@ -129,7 +132,7 @@ function lookOf({ program, words }, box) {
       files.keep(LOOKED, (await runners.sancus.run(linking, await files.forRun(linking))).out);
     }
     const image = words[0] === "run" ? LOOKED : words[1];
-    files.keep(SCRIPT, new TextEncoder().encode(lookScript(cycle, "0200", 64)));
+    files.keep(SCRIPT, new TextEncoder().encode(lookScript(cycle, workbench.field("mem"), 64)));
     const asked = ["monitor", image, words[2], SCRIPT];
     const ran = await runners.sancus.run(asked, await files.forRun(asked));
     const written = ran.err || new TextDecoder().decode(ran.out);
@@ -304,8 +307,10 @@ function listen() {
 }
 
 function showModules() {
-  part("modules").replaceChildren(...items(Object.entries(MODULES).map(([name, { size, sha256, version }]) =>
-    element("span", `${name} ${version}: release/${name}.wasm, ${size.toLocaleString("en")} bytes, SHA-256 ${sha256}`))));
+  part("modules").replaceChildren(...Object.entries(MODULES).map(([name, { size, sha256, version }]) => {
+    const told = `${name} ${version}: release/${name}.wasm, ${size.toLocaleString("en")} bytes, SHA-256 ${sha256}`;
+    return element("li", told);
+  }));
 }
 
 // The second program, once the page answers: it is not waited for.

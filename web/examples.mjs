@@ -54,13 +54,15 @@ function merged(runs) {
 }
 
 function nameOf(folder, { sources, schedule, challenges }) {
-  const own = sources.filter((it) => it.startsWith(`examples/${folder}/`)).map(base).filter((it) => !BESIDE.includes(it));
+  const ofFolder = sources.filter((it) => it.startsWith(`examples/${folder}/`));
+  const own = ofFolder.map(base).filter((it) => !BESIDE.includes(it));
   return `${basename(folder)}: ${[...own, ...[schedule, challenges].filter((it) => it).map(base)].join(", ")}`;
 }
 
 const lines = readFileSync(`${top}web/tasks.txt`, "utf8").trimEnd().split("\n");
 const tasks = new Map(lines.map((line) => line.split(" | ")));
-const examples = folders.flatMap((folder) => merged(runsOf(folder)).map((run) => ({ name: nameOf(folder, run), ...run })));
+const ofFolder = (folder) => merged(runsOf(folder)).map((run) => ({ name: nameOf(folder, run), ...run }));
+const examples = folders.flatMap(ofFolder);
 const lacking = examples.filter(({ name }) => !tasks.has(name)).map(({ name }) => name);
 const unused = [...tasks.keys()].filter((name) => !examples.some((it) => it.name === name));
 for (const name of lacking) console.error(`no task in web/tasks.txt: ${name}`);

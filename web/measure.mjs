@@ -1,6 +1,6 @@
 #!/usr/bin/env node
-// The sizes of the modules, the first one's speed beside the native program, one after the other in one run, and the Bench
-// in a headless Chromium: from a cold load to the first answer.
+// The sizes of the modules, the first one's speed beside the native program, one after the other in one run, and the
+// Bench in a headless Chromium: from a cold load to the first answer.
 //     web/measure.mjs PROGRAM [CHROMIUM] > bench/results/web.txt
 import { spawnSync } from "node:child_process";
 import { readFileSync } from "node:fs";
@@ -28,7 +28,8 @@ const LINES = [
   ["a C object, linked and run", "run examples/c/layout.toml - 400 examples/c/meter.o"],
   ["a module's text, judged", "balance examples/channel/module_0.img 1 examples/channel/arms.txt"],
 ];
-const files = new Map([["busy.img", BUSY], ["sender.img", SENDER]].map(([name, text]) => [name, new TextEncoder().encode(text)]));
+const images = { "busy.img": BUSY, "sender.img": SENDER };
+const files = new Map(Object.entries(images).map(([name, text]) => [name, new TextEncoder().encode(text)]));
 for (const name of LINES.flatMap(([, line]) => line.split(" ")).filter((word) => word.startsWith("examples/"))) {
   files.set(name, new Uint8Array(readFileSync(top + name)));
 }
@@ -75,5 +76,6 @@ if (process.argv[3]) {
   stop();
   const times = loads.map(({ time }) => time.toFixed(0)).join(", ");
   console.log(`\nBench in ${product} from 127.0.0.1, without a cache: first answer after ${times} ms`);
-  console.log(`sent for it, the second program included: ${Math.max(...loads.map(({ sent }) => sent))} bytes, as web/serve packs them`);
+  const sent = Math.max(...loads.map((it) => it.sent));
+  console.log(`sent for it, the second program included: ${sent} bytes, as web/serve packs them`);
 }

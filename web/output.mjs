@@ -7,7 +7,8 @@ const SAMPLE = 1 << 16;
 // Where each line begins, of which there may be millions.
 function lineStarts(bytes) {
   const starts = [0];
-  for (let at = bytes.indexOf(10); at >= 0 && at + 1 < bytes.length; at = bytes.indexOf(10, at + 1)) starts.push(at + 1);
+  const next = (from) => bytes.indexOf(10, from) + 1;
+  for (let at = next(0); at > 0 && at < bytes.length; at = next(at)) starts.push(at);
   return starts;
 }
 
@@ -43,6 +44,7 @@ function windowForm(count, show) {
     go(Number(first.value));
   };
   const all = element("span", `of ${count.toLocaleString("en")}, ${LINES.toLocaleString("en")} at a time`);
-  form.append(label, all, element("button", "Show"), button("Lines before", step(-LINES)), button("Lines after", step(LINES)));
+  const buttons = [button("Lines before", step(-LINES)), button("Lines after", step(LINES))];
+  form.append(label, all, element("button", "Show"), ...buttons);
   return form;
 }

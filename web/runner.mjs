@@ -20,7 +20,8 @@ async function compare(program, bytes) {
   if (!globalThis.crypto?.subtle) return;
   const digest = new Uint8Array(await crypto.subtle.digest("SHA-256", bytes));
   const found = [...digest].map((byte) => byte.toString(16).padStart(2, "0")).join("");
-  if (found !== MODULES[program].sha256) throw new Error(`release/${program}.wasm has another SHA-256 than web/modules.mjs tells: ${found}`);
+  if (found === MODULES[program].sha256) return;
+  throw new Error(`release/${program}.wasm has another SHA-256 than web/modules.mjs tells: ${found}`);
 }
 
 // The cycle that the last whole line of a piece begins with, or null.

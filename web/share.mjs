@@ -1,10 +1,11 @@
 // A bench as a text: for a link's fragment, for the browser's own storage, for a file.
+import { FIELDS } from "./actions.mjs";
+
 const KEY = "sancus-bench";
 const MOST_LINK = 32768;
 const MOST_TEXT = 1 << 23;
 const ROLES = ["source", "other", "layout", "schedule", "script", "arms", "terms"];
 const VIEW = ["from", "to", "cursor"];
-const FIELDS = ["cycles", "id", "line", "from", "to", "start", "end"];
 
 async function through(stream, bytes, most = Infinity) {
   const pieces = [];
@@ -47,7 +48,8 @@ export function checked(text) {
   const isPane = (it) => ROLES.includes(it?.role) && isText(it.name) && isText(it.text);
   const isFile = (it) => Array.isArray(it) && it.length === 2 && it.every(isText);
   const holds = bench?.version === 1 && Array.isArray(bench.panes) && bench.panes.every(isPane)
-    && FIELDS.every((name) => isText(bench.fields?.[name])) && Array.isArray(bench.files) && bench.files.every(isFile)
+    && Object.keys(FIELDS).every((name) => isText(bench.fields?.[name]))
+    && Array.isArray(bench.files) && bench.files.every(isFile)
     && isText(bench.command) && (bench.view === null || VIEW.every((name) => Number.isInteger(bench.view?.[name])))
     && bench.panes.filter(({ role }) => role === "layout").length === 1;
   if (!holds) throw new Error("it is no bench of this version");

@@ -124,8 +124,8 @@ export function firstDifference(one, other) {
   return null;
 }
 
-// The names of a map: lines `module ID NAME ..`, `entry AAAA ID K NAME`, `part START END ..` and `symbol AAAA ID KIND OBJECT
-// NAME`, after a first line `sancus-map 1`. `nameAt` gives the symbol at or before an address of its part.
+// The names of a map: lines `module ID NAME ..`, `entry AAAA ID K NAME`, `part START END ..` and `symbol AAAA ID KIND
+// OBJECT NAME`, after a first line `sancus-map 1`. `nameAt` gives the symbol at or before an address of its part.
 export function readMap(text) {
   const lines = text.split("\n");
   if (lines[0] !== "sancus-map 1") throw new Error("not a map: its first line is not `sancus-map 1`");

@@ -2,7 +2,8 @@
 import { button, element, number } from "./elements.mjs";
 import { picture, read } from "./trace.mjs";
 
-const HELP = "Timeline. Arrows move the cycle, plus and minus zoom, Page Up and Page Down pan, Home shows all, Enter looks";
+const HELP = "Timeline. Arrows move the cycle, plus and minus zoom, Page Up and Page Down pan, Home shows all,"
+  + " Enter looks into the machine";
 const WHERE = {
   outside: "code outside runs", open: "code outside runs, and an interrupt is not yet returned from",
   accept: "an interrupt is accepted", padding: "padding", active: "is active", held: "is put away",
@@ -17,8 +18,8 @@ export class View {
   #last;
   cursor = 0;
 
-  // `look(cycle)` shows the machine in a cycle; where it is null there is no such button. `moved` is told each view, and
-  // `view` is the first.
+  // `look(cycle)` shows the machine in a cycle; where it is null there is no such button. `moved` is told each view,
+  // and `view` is the first.
   constructor(text, how, { look = null, moved = () => {}, view = null }) {
     [this.#lines, this.#how, this.#look, this.#moved] = [read(text), how, look, moved];
     this.#last = Math.max(this.#lines.at(-1).cycle, 1);
@@ -94,9 +95,12 @@ export class View {
       event.preventDefault();
       keys[event.key]();
     };
-    const cycle = (event) => this.#drawn.cycleAt(event.clientX - this.box.getBoundingClientRect().left + this.box.scrollLeft);
+    const left = () => this.box.getBoundingClientRect().left - this.box.scrollLeft;
+    const cycle = (event) => this.#drawn.cycleAt(event.clientX - left());
     let held = null;
-    this.box.onpointerdown = (event) => (held = { x: event.clientX, from: Number(this.from.value), to: Number(this.to.value) });
+    this.box.onpointerdown = ({ clientX: x }) => {
+      held = { x, from: Number(this.from.value), to: Number(this.to.value) };
+    };
     this.box.onpointermove = (event) => {
       if (!held || !event.buttons) return this.point(cycle(event));
       const by = (held.x - event.clientX) * (held.to - held.from) / (this.#drawn.right - this.#drawn.left);
@@ -155,6 +159,13 @@ function table(head, rows) {
   return made;
 }
 
+// A line of the monitor's memory in rows of 16 bytes.
+function rowsOf(line) {
+  const [, start, bytes] = /^([0-9a-f]{4}): (\w+)$/.exec(line) ?? [];
+  if (!bytes) return line;
+  return bytes.match(/.{1,32}/g).map((row, at) => `${hex(parseInt(start, 16) + 16 * at)}: ${row}`).join("\n");
+}
+
 // What the monitor wrote for lookScript, with the registers that changed since the cycle before marked.
 export function lookTables(written, image) {
   const [now, before] = written.split("\n").filter((line) => line.startsWith("regs ")).map((line) => line.split(" "));
@@ -166,7 +177,8 @@ export function lookTables(written, image) {
     cells: [`${hex(from)} to ${hex(to - 1)}`, owner],
     marked: isSeen && from <= parseInt(now[3], 16) && parseInt(now[3], 16) < to,
   }));
-  const memory = written.split("\n").filter((line) => /^([0-9a-f]{4}: |refused )/.test(line)).join("\n");
+  const ofMemory = written.split("\n").filter((line) => /^([0-9a-f]{4}: |refused |sancus: )/.test(line));
+  const memory = ofMemory.map(rowsOf).join("\n");
   const said = isSeen ? "Marked: the registers that changed in the last cycle, and where the program counter is."
     : `${now?.slice(2).join(" ") ?? "The machine stopped before"}: its registers are not for the outside.`;
   const box = element("div", "", "machine");

@@ -1,5 +1,7 @@
 // What a refusal means, in the sentences of tools/why, and names of a map for addresses.
 const FIELD = /\b[A-Z]+\b/g;
+// The faults whose first number is a line's.
+const OF_LINES = ["Line", "NotRising", "Place", "Twice", "TooMany", "Large", "NoLabel", "Far", "Number"];
 let tables = null;
 
 export async function loadReasons(url = new URL("reasons.json", import.meta.url)) {
@@ -63,8 +65,8 @@ export function why(line, words) {
 
 // The line that a refusal is about, {file, line}, or null.
 export function refusedLine(line) {
-  const found = /^sancus(?:-lab)?: bad file (.*): (?:Line|NotRising|Place|Twice|TooMany|Large|NoLabel|Far|Number) (\d+)/.exec(line);
-  return found && { file: found[1], line: Number(found[2]) };
+  const found = /^sancus(?:-lab)?: bad file (.*): (\w+) (\d+)/.exec(line);
+  return found && OF_LINES.includes(found[2]) ? { file: found[1], line: Number(found[3]) } : null;
 }
 
 // A line with the map's name behind the address that it begins with or names: of `steps`, `dis`, verdicts and stops.

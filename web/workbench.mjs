@@ -87,6 +87,10 @@ export class Workbench {
     this.#listFiles();
   }
 
+  field(name) {
+    return this.#inputs[name].value;
+  }
+
   state() {
     const fields = Object.fromEntries(Object.entries(this.#inputs).map(([name, { value }]) => [name, value]));
     const { selectedIndex: example } = part("example");
@@ -166,7 +170,7 @@ export class Workbench {
 
   // A worker of the browser keeps all files, of which it says so once it is active.
   async #keepOffline() {
-    if (!navigator.serviceWorker) throw new Error("This browser keeps no offline copy of a page that is served without https");
+    if (!navigator.serviceWorker) throw new Error("Only a page that is served by https, or by this machine, is kept");
     part("shared").textContent = "The files of this page are being kept";
     await navigator.serviceWorker.register(new URL("offline.mjs", import.meta.url));
     await navigator.serviceWorker.ready;

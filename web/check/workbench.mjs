@@ -207,7 +207,7 @@ async function keeping() {
   same("then the first example is there", await value(`${pane("schedule")}.value`), "");
   await value(`{
     const bench = { version: 1, panes: [{ role: "layout", name: "layout.toml", text: "x" }, { role: "source", name: "__proto__", text: "y" }],
-      fields: { cycles: "9", id: "1", line: "0", from: "0", to: "1", start: "0200", end: "0204" }, files: [["a", "eA=="]],
+      fields: { cycles: "9", id: "1", line: "0", from: "0", to: "1", start: "0200", end: "0204", mem: "0200" }, files: [["a", "eA=="]],
       command: "", view: null, example: -1 };
     const files = new DataTransfer();
     files.items.add(new File([JSON.stringify(bench)], "b.json"));
@@ -242,6 +242,8 @@ async function moving() {
   await browser.press("Enter");
   await browser.until(`${text(".run .machine")}.includes("R00214")`);
   check("the registers after the module was left", (await value(`${cells}).join()`)).includes("R1 0600"));
+  same("memory in rows of 16 bytes", (await value(run(".machine pre"))).split("\n").map((row) => row.slice(0, 6)),
+    ["0200: ", "0210: ", "0220: ", "0230: "]);
   await picture("machine");
   await value("document.querySelector('.run .picture').scrollIntoView({ block: 'center' })");
   const box = await value("(({ left, top, width }) => ({ left, top, width }))(document.querySelector('.run .picture').getBoundingClientRect())");
