@@ -106,10 +106,12 @@ async function labButtons() {
   await press("Sweep");
   check(`Sweep finds the pulse of the page: ${await value(run("pre"))}`,
     /^pulse 17 begins 9 6 .* line 1\n1 20 irq 1\n2 17 irq 1\nend 0 same 1 different\n$/.test(await value(run("pre"))));
+  await picture("sweep");
   await press("Map");
   check("Map", /^sancus-map 1\nmodule 1 m 0800 /.test(await value(run("pre"))));
   await press("Steps");
   check("Steps has the map's names", /^0 0 0200: 4031 0600 mov #0x0600, r1 {2}; main$/m.test(await value(run("pre"))));
+  await picture("steps");
   await press("Released");
   same("Released", await value(run("pre")), "yes\n");
 }
