@@ -36,7 +36,7 @@ for (const file of readFileSync(`${top}web/files.txt`, "utf8").trimEnd().split("
   same(`/${file}`, await status(`/${file}`), 200);
 }
 const OTHERS = ["/.git/config", "/.git/HEAD", "/web/serve", "/web/", "/HANDLES", "/README.md", "/web/../README.md", "//etc/passwd",
-  "/web/%2e%2e/README.md", "/../../etc/passwd", "/examples/", "/web/bench.html/", "/web/bench.html%00"];
+  "/web/%2e%2e/README.md", "/../../etc/passwd", "/examples/", "/web/bench.html/", "/web/bench.html%00", "//[", "/%ff"];
 for (const path of OTHERS) same(path, await status(path), 404);
 same("localhost is this machine", await status("/web/index.html", `localhost:${port}`), 200);
 for (const host of [`evil.example:${port}`, "127.0.0.1", `127.0.0.1:${port}.evil.example`, "", "127.0.0.1:1"]) {
@@ -52,6 +52,10 @@ writeFileSync(join(room, "web/files.txt"), "web/linked.html\nweb/none.html\nweb/
 writeFileSync(join(room, "web/own.html"), "own");
 symlinkSync("/etc/passwd", join(room, "web/linked.html"));
 const small = await start(join(room, "web/serve"));
+rmSync(join(room, "web/files.txt"));
+const lacking = spawnSync(join(room, "web/serve"), ["0"], { timeout: 5000 });
+same("without its list", [lacking.status, lacking.stderr.toString()],
+  [1, "serve: web/files.txt cannot be read: No such file or directory\n"]);
 same("a listed file", await small.status("/web/own.html"), 200);
 same("a link", await small.status("/web/linked.html"), 404);
 same("a listed file that is not there", await small.status("/web/none.html"), 404);
