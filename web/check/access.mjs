@@ -23,6 +23,10 @@ export function accessFaults() {
     ].filter((holds) => !holds).map(String),
     "what is pressed is 24 pixels high": told(all("button, select, input:not([type=range])")
       .filter((it) => seen(it) && it.getBoundingClientRect().height < 24)),
+    "nothing moves by itself": told(all("body *").filter((it) => {
+      const { animationName, transitionDuration } = getComputedStyle(it);
+      return animationName !== "none" || transitionDuration !== "0s";
+    })),
     "no script and no style stands in the page": told(all("script:not([src]), style, [style], [onclick]")),
   };
 }

@@ -8,6 +8,7 @@ import { fileURLToPath } from "node:url";
 import { accessFaults } from "./access.mjs";
 import { filesOf } from "./cases.mjs";
 import { Chromium } from "./chromium.mjs";
+import { contrastFaults } from "./contrast.mjs";
 import { check, end, same } from "./count.mjs";
 import { Native } from "./native.mjs";
 import { coldLoad, count, finished, runLine, serve, text } from "./visit.mjs";
@@ -56,6 +57,15 @@ async function put(role, content) {
   await value(`{ const it = ${pane(role)}; it.value = ${JSON.stringify(content)}; it.dispatchEvent(new Event("input")); }`);
 }
 
+// The page as it stands, narrow and wide, in both schemes of colours.
+async function looks(what) {
+  for (const [width, scheme] of [[360, "dark"], [360, "light"], [1240, "dark"], [1240, "light"]]) {
+    await browser.look(width, scheme);
+    check(`${what} fits, ${width} ${scheme}`, await value("document.documentElement.scrollWidth <= innerWidth"));
+    same(`${what} has contrast, ${width} ${scheme}`, await value(`(${contrastFaults})()`), []);
+  }
+}
+
 async function buttons() {
   same("the list of examples", await value(count("#example option")), 53);
   await choose("stops: read_data");
@@ -71,6 +81,7 @@ async function buttons() {
   check("plain code shows the secret", /The secret shows.*“20 irq 1” and “17 irq 1”/.test(await value(run(".verdict"))));
   same("two timelines side by side, the difference in each", await value(count(".run:first-child svg .first")), 2);
   same("and in both traces", await value(count(".run:first-child .differs")), 2);
+  await looks("two secrets");
   await picture("two_secrets");
   await choose(MODULE);
   await press("Two secrets");
@@ -123,6 +134,7 @@ async function refusals() {
   same("the refused line is marked", await value(text(".pane.source .marked")), "4\n");
   check("and told beside it", /^Line 4: .*has none of a source's forms/.test(await value(text(".pane.source .said"))));
   same("and to who cannot see it", await value(`${pane("source")}.getAttribute("aria-invalid")`), "true");
+  await looks("a refusal");
   await picture("refused");
   await put("source", "section .text code\n");
   same("the mark goes with the next change", await value(count(".marked")), 0);
@@ -246,6 +258,7 @@ async function moving() {
   check("the registers after the module was left", (await value(`${cells}).join()`)).includes("R1 0600"));
   same("memory in rows of 16 bytes", (await value(run(".machine pre"))).split("\n").map((row) => row.slice(0, 6)),
     ["0200: ", "0210: ", "0220: ", "0230: "]);
+  await looks("the machine in a cycle");
   await picture("machine");
   await value("document.querySelector('.run .picture').scrollIntoView({ block: 'center' })");
   const box = await value("(({ left, top, width }) => ({ left, top, width }))(document.querySelector('.run .picture').getBoundingClientRect())");
