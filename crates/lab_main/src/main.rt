@@ -15,7 +15,7 @@ use std::process::ExitCode;
 const NAME: &str = "sancus-lab";
 
 /// The version of the repository's programs, as the newest one of CHANGELOG.md.
-const VERSION: &str = "1.5.5";
+const VERSION: &str = "1.6.0";
 
 /// At most so many objects are linked.
 const MOST_OBJECTS: usize = 64;

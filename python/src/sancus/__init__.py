@@ -28,4 +28,4 @@ __all__ = [
     "SchedulerLost", "Step", "Steps", "Stop", "Symbol", "Target", "Terms", "Trace", "Verdict", "assemble", "attest",
     "find", "hunt", "latency", "link", "sweep",
 ]
-__version__ = "1.5.5"
+__version__ = "1.6.0"
