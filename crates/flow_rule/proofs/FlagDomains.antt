@@ -1,10 +1,10 @@
 -- What is kept of the flags holds of both runs.
-use Rattle.std.proofs.Common.{◌≡◌, ℕ, ◌∷◌, [], refl, sym, ap, ◌∙◌, Option, Some, None}
+use Rattle.std.proofs.Common.{◌≡◌, ℕ, ◌∷◌, [], refl, sym, ap, ◌∙◌, Some}
 use Rattle.mod_layout.specs.declared.Section.{Section}
 use Rattle.flow_rule.specs.declared.Val.{Val}
 use Rattle.flow_rule.specs.declared.Val.TheVariants.{Known, Away, Public, Secret}
-use Rattle.flow_rule.specs.Values.{FlagDomain, blurred_flags, known_flags, flags_in, over, over_one, blurred, known_number}
-use Rattle.flow_rule.proofs.Meaning.{Agrees, over_agrees, over_one_agrees, public}
+use Rattle.flow_rule.specs.Values.{FlagDomain, blurred_flags, known_flags, flags_in, blurred, known_number}
+use Rattle.flow_rule.proofs.Meaning.{Agrees, over_agrees, over_one_agrees}
 
 pub record SoundFlags (domain : FlagDomain) : Type 0 where
   pub told : (s : Section) (f : ℕ → ℕ → ℕ → ℕ) (u v w : Val) (a b c a' b' c' : ℕ) → Agrees s u a a' → Agrees s v b b' → Agrees s w c c' → Agrees s (domain.told f u v w) (f a b c) (f a' b' c')

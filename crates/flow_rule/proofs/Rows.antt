@@ -16,8 +16,7 @@ use Rattle.cycle_table.specs.Cycles.{cycles_of}
 use Rattle.arm_balance.specs.declared.Arm.{Arm}
 use Rattle.flow_rule.specs.Arms.{Walk, Meets, Stops, first_walk, second_walk, flow_under, step_arms}
 use Rattle.flow_rule.specs.Violations.{violation}
-use Rattle.flow_rule.specs.Steps.{step_of}
-use Rattle.flow_rule.specs.Stub.{step_stub, has_stub}
+use Rattle.flow_rule.specs.Stub.{has_stub}
 use Rattle.flow_rule.specs.Verdict.{flow_step, start_under}
 use Rattle.arm_balance.specs.Met.{met}
 

@@ -1,11 +1,11 @@
 -- The transfer functions: what an instruction reaches and does, over abstract values.
 use Rattle.flow_rule.specs.declared.Reach.{Reach}
 use Rattle.flow_rule.specs.declared.Told.{Told}
-use Rattle.std.specs.Prelude.{ℕ, ◌+◌, ◌-◌, ◌*◌, ◌/◌, ◌%◌, List, [], ◌∷◌, ◌++◌, drop, filter, fold, zip, slice_set, ◌==◌, if◌then◌else◌, Bool, true, false, ◌&&◌, ◌||◌, not, Option, Some, None}
+use Rattle.std.specs.Prelude.{ℕ, ◌-◌, ◌*◌, ◌/◌, ◌%◌, List, [], ◌∷◌, ◌++◌, drop, filter, fold, zip, slice_set, ◌==◌, if◌then◌else◌, Bool, true, false, ◌&&◌, ◌||◌, not, Option, Some, None}
 use Rattle.sm_words.specs.Words.{nth, add16, bit, word_at}
 use Rattle.insn_decode.specs.Code.{words_of, length_of, distance}
 use Rattle.sm_words.specs.Status.{has_all_flags}
-use Rattle.sm_words.specs.Sums.{low, one_if}
+use Rattle.sm_words.specs.Sums.{low}
 use Rattle.cpu_step.specs.declared.result.Computed.{Computed}
 use Rattle.cpu_step.specs.Effect.{value_of, with_flags, two_result, one_result, in_memory}
 use Rattle.cpu_step.specs.Plan.{increment_of, reads_dst, writes_dst}
