@@ -159,7 +159,7 @@ module _ (step : PointState → FlowStep) (keeps : PointState → Bool) (x : Poi
       take_state step keeps most_states x to_come kept ≡ cond b Overflows (Goes (stacked hs []) (stacked ks []))
   take_on b hs ks e f g h l =
       take_other [] e (none_found (step x).violations f)
-      ∙ sym (ap (λ xs. on xs (cond (keeps x) (x ∷ kept) kept)) g ) ∙ sym (ap (λ ys. on (stacked hs []) ys) h)
+      ∙ sym (ap (λ xs. on xs (cond (keeps x) (x ∷ kept) kept)) g) ∙ sym (ap (λ ys. on (stacked hs []) ys) h)
       ∙ ap (λ n. cond (nat_lt most_states n) Overflows (Goes (stacked hs []) (stacked ks []))) (ap (λ n. n + length (stacked ks [])) (stack_length hs) ∙ ap (λ n. length hs + n) (stack_length ks))
       ∙ ap (λ b. cond b Overflows (Goes (stacked hs []) (stacked ks []))) l
 

@@ -240,7 +240,12 @@ fn take(
     if let Some(violation) = stepped.least {
         return Ok(Advance::Wrong(violation));
     }
-    push_all(held, &stepped.call_string, stepped.targets.as_slice(), to_come)?;
+    push_all(
+        held,
+        &stepped.call_string,
+        stepped.targets.as_slice(),
+        to_come,
+    )?;
     if to_come.len() + kept.len() > MOST {
         return Ok(Advance::Full);
     }

@@ -289,13 +289,7 @@ fn write_result(flags: Flags, operand: Operand, told: &Told, core: &mut Core) ->
 }
 
 /// Writes a result into its operand, or sets the flags alone.
-fn finish(
-    flags: Flags,
-    written: bool,
-    operand: Operand,
-    told: &Told,
-    core: &mut Core,
-) -> Stored
+fn finish(flags: Flags, written: bool, operand: Operand, told: &Told, core: &mut Core) -> Stored
     ensures core { core.new ≡ (written_val (domain_of flags) written operand told.now core.old).core }
     ensures stored { result.items ≡ (written_val (domain_of flags) written operand told.now core.old).stored }
 {

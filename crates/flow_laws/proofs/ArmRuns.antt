@@ -27,11 +27,9 @@ use Rattle.flow_rule.specs.Terms.{Terms}
 use Rattle.flow_rule.specs.declared.Val.{Val}
 use Rattle.flow_rule.specs.declared.Val.TheVariants.{Known, Away, Public, Secret}
 use Rattle.flow_rule.specs.Values.{flags_in, is_secret, val}
-use Rattle.flow_rule.specs.declared.Reason.TheVariants.{SecretBranch}
 use Rattle.flow_rule.specs.Iterations.{PointState, RuleViolation, FlowStep}
 use Rattle.flow_rule.specs.Does.{does_val, past_val}
-use Rattle.flow_rule.specs.Violations.{violation_if}
-use Rattle.flow_rule.specs.Going.{goes, both, also}
+use Rattle.flow_rule.specs.Going.{goes}
 use Rattle.flow_rule.specs.Steps.{turns_by, step_plain, step_jump, step_insn, step_of}
 use Rattle.flow_rule.proofs.Meaning.{Agrees}
 use Rattle.flow_rule.proofs.Cores.{AgreeCore, put_other_reg, mode, confined_mode, confined_kept}

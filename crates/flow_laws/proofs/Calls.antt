@@ -16,7 +16,7 @@ use Rattle.cpu_step.specs.Lone.{Entrance, CallEnd, Exit, Closing, Running, start
 use Rattle.std.specs.Prelude.{All}
 use Rattle.flow_rule.specs.Terms.{Terms, no_terms}
 use Rattle.flow_rule.specs.declared.Val.TheVariants.{Away}
-use Rattle.flow_rule.specs.Iterations.{PointState, IsLabelling, all_violations}
+use Rattle.flow_rule.specs.Iterations.{PointState}
 use Rattle.flow_rule.specs.declared.Verdict.TheVariants.{Yes}
 use Rattle.flow_rule.specs.Steps.{step_of}
 use Rattle.flow_rule.specs.Stub.{is_open, shut_if, shut_violations, step_entries, call_entry, text_word, word_number, has_stub, step_stub}
@@ -26,8 +26,8 @@ use Rattle.flow_laws.proofs.Labelling.{Among, Closed, closed}
 use Rattle.flow_laws.proofs.Ways.{OnWay, unrolled_closed}
 use Rattle.flow_laws.specs.internal.Unrolling.{UnrolledUnder, IsUnrolled}
 use Rattle.flow_laws.proofs.Runs.{Sound}
-use Rattle.flow_laws.specs.Releases.{Release, SomeDiffer, released_at, releasing, ToldApart}
-use Rattle.flow_laws.proofs.Told.{EndsOr, point_opens, always_or}
+use Rattle.flow_laws.specs.Releases.{Release, SomeDiffer, released_at, releasing}
+use Rattle.flow_laws.proofs.Told.{point_opens, always_or}
 use Rattle.flow_laws.proofs.Instruction.{AgreeAt, even_at, weaken_at, step_crossing}
 use Rattle.flow_laws.proofs.Decoding.{met_regular}
 use Rattle.flow_rule.proofs.Stub.{StubFacts, place_of_word, stub_facts}

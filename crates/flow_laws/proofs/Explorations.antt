@@ -1,7 +1,7 @@
 -- An exploration that is complete unrolls the text.
-use Rattle.std.proofs.Common.{◌≡◌, ◌⊎◌, inl, inr, ℕ, zero, suc, List, [], ◌∷◌, ◌++◌, refl, sym, ap, ◌∙◌, subst, Bool, true, false, cond, ◌||◌}
+use Rattle.std.proofs.Common.{◌≡◌, inl, inr, ℕ, zero, suc, List, [], ◌∷◌, ◌++◌, refl, ap, ◌∙◌, subst, Bool, true, false, cond, ◌||◌}
 use Rattle.flow_rule.specs.Iterations.{PointState, RuleViolation, FlowStep}
-use Rattle.flow_laws.specs.Exploring.{is_known, Taken, Goes, Fails, Overflows, Explored, Complete, Violated, Unfinished, on_top, within, unless_wrong, take_state, explore_on, explore}
+use Rattle.flow_laws.specs.Exploring.{is_known, Taken, Goes, Overflows, Complete, on_top, within, unless_wrong, explore_on, explore}
 use Rattle.flow_laws.specs.internal.Unrolling.{Each, Leads, GoesOn, IsUnrolled}
 
 -- of all on top and of all below

@@ -28,11 +28,10 @@ use Rattle.flow_rule.specs.Terms.{Terms}
 use Rattle.flow_rule.specs.declared.Val.{Val}
 use Rattle.flow_rule.specs.declared.Val.TheVariants.{Known, Away, Public, Secret}
 use Rattle.flow_rule.specs.Values.{flags_in, is_secret, set_each, val, put_val}
-use Rattle.flow_rule.specs.declared.Reason.TheVariants.{SecretBranch}
 use Rattle.flow_rule.specs.Iterations.{PointState, FlowStep}
 use Rattle.flow_rule.specs.Does.{plan_val, does_val, past_val, read_val, writes_val, read_reaches, write_reaches}
-use Rattle.flow_rule.specs.Violations.{violation_if, reach_violations, exit_violations, word_violations}
-use Rattle.flow_rule.specs.Going.{exit_step, goes_by, goes, both, also}
+use Rattle.flow_rule.specs.Violations.{reach_violations, exit_violations, word_violations}
+use Rattle.flow_rule.specs.Going.{exit_step, goes_by, goes}
 use Rattle.flow_rule.specs.CallStrings.{return_turn}
 use Rattle.flow_rule.specs.Steps.{turns_by, step_plain, step_jump, step_unit, step_insn, step_of}
 use Rattle.flow_rule.proofs.Goes.{goes_in, goes_unless}
@@ -40,7 +39,7 @@ use Rattle.flow_laws.specs.Laws.{AgreeOn}
 use Rattle.flow_rule.proofs.Meaning.{Agrees, same}
 use Rattle.flow_rule.proofs.Cores.{Even_section, AgreeCore, put_agrees, put_other_reg, confined_agrees, ends_so}
 use Rattle.flow_rule.proofs.Effects.{Regular, AgreeList, DoneAgrees, one_does, two_does, past_agrees}
-use Rattle.flow_rule.proofs.Plans.{Reached, fixed, inside, one_reached, two_reached, none_left, none_right, none_if}
+use Rattle.flow_rule.proofs.Plans.{Reached, fixed, inside, one_reached, two_reached, none_left, none_right}
 use Rattle.flow_rule.specs.Arms.{written_words}
 use Rattle.arm_balance.specs.Met.{text_byte, met}
 use Rattle.flow_laws.proofs.Words.{NotIn, word, writes_keep, Shape, IsData, AgreeData, reads_agree, writes_agree, word_text}

@@ -6,7 +6,7 @@ use Rattle.flow_rule.specs.Terms.{Terms}
 use Rattle.flow_rule.specs.Values.{set_each, known_flags}
 use Rattle.flow_rule.specs.Does.{word_no}
 use Rattle.flow_rule.specs.Arms.{flow_under}
-use Rattle.flow_laws.specs.Exploring.{Explored, forks, most_states, explore, explored, first_state, IsUnrolling}
+use Rattle.flow_laws.specs.Exploring.{forks, most_states, explore, explored, first_state}
 use Rattle.flow_check.specs.internal.Stubs.{IsStub, first_core}
 use Rattle.flow_check.specs.internal.Points.{state_of}
 use Rattle.flow_check.specs.internal.Exploring.{held_point, Ends}

@@ -1,12 +1,10 @@
 -- The states of an exploration, as the code holds them.
-use Rattle.std.specs.Prelude.{◌≡◌, List, [], ◌∷◌, Option, Some, None}
+use Rattle.std.specs.Prelude.{◌≡◌, List, [], ◌∷◌, Some, None}
 use Rattle.flow_rule.specs.Iterations.{PointState, RuleViolation}
 use Rattle.flow_laws.specs.Exploring.{Taken, Goes, Fails, Overflows, Explored, Complete, Violated, Unfinished}
 use Rattle.flow_check.specs.declared.exploring.Held.{Held}
 use Rattle.flow_check.specs.declared.exploring.Advance.{Advance}
-use Rattle.flow_check.specs.declared.exploring.Advance.TheVariants as Advance
 use Rattle.flow_check.specs.declared.exploring.Ending.{Ending}
-use Rattle.flow_check.specs.declared.exploring.Ending.TheVariants as Ending
 use Rattle.flow_check.specs.declared.violation.Violation.{Violation}
 use Rattle.flow_check.specs.internal.Points.{list_of}
 use Rattle.flow_check.specs.internal.Violations.{noted}

@@ -1,4 +1,4 @@
-use Rattle.std.proofs.Common.{arith, ◌≡◌, ◌∙◌, sym, ap, subst, []}
+use Rattle.std.proofs.Common.{arith, ◌∙◌, subst, []}
 use Rattle.flow_laws.specs.Exploring.{forks, take_state, most_states}
 use Rattle.flow_check.specs.internal.Programs.{flow_by}
 use Rattle.flow_check.specs.internal.Exploring.{held_point, stacked, Takes}

@@ -1,4 +1,4 @@
-use Rattle.std.proofs.Common.{◌≡◌, ◌∙◌, sym, ap, [], ◌∷◌, drop, ◌+◌}
+use Rattle.std.proofs.Common.{◌∙◌, sym, ap, [], ◌∷◌, drop, ◌+◌}
 use Rattle.std.proofs.lemmas.List.{drop_more}
 use Rattle.flow_laws.specs.Exploring.{is_known}
 use Rattle.flow_check.specs.internal.Exploring.{held_point, stacked}

@@ -1,4 +1,4 @@
-use Rattle.std.proofs.Common.{◌∙◌, sym, ap, ◌∷◌, []}
+use Rattle.std.proofs.Common.{◌∙◌, ap, ◌∷◌, []}
 use Rattle.flow_check.specs.internal.Points.{list_of, points_at}
 use Rattle.flow_check.specs.internal.Exploring.{held_point}
 use Rattle.flow_check.proofs.Holdings.{push_more}

@@ -1,5 +1,5 @@
 use Rattle.std.proofs.lemmas.Bool.Decides.{nat_tests}
-use Rattle.std.proofs.Common.{arith, ◌≡◌, ◌∙◌, sym, ap, [], nat_lt, ◌+◌, length, None, Some, true, false}
+use Rattle.std.proofs.Common.{arith, ◌≡◌, ◌∙◌, sym, ap, [], None, true, false}
 use Rattle.flow_rule.specs.Iterations.{FlowStep}
 use Rattle.flow_laws.specs.Exploring.{forks, on_top, is_known}
 use Rattle.flow_check.specs.internal.Points.{list_of, points_at}

@@ -3,7 +3,7 @@ use Rattle.flow_check.specs.internal.Programs.{domain_of}
 use Rattle.std.proofs.Common.{◌∙◌, sym, subst, ap}
 use Rattle.flow_check.specs.internal.Points.{state_of, point_of}
 use Rattle.flow_check.specs.internal.Steps.{Tells, condition_of}
-use Rattle.flow_check.proofs.Violations.{jump_always, jump_known, jump_open}
+use Rattle.flow_check.proofs.Violations.{jump_always}
 use Rattle.flow_check.specs.internal.Terms.{terms_in}
 use Rattle.flow_check.proofs.step.step_jump.Goals as goal
 
