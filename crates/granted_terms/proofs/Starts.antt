@@ -92,7 +92,7 @@ module _ (m : Module) where
       Lower (start_under other m text) (start_under now m text)
   start_lower now other text h = by (has_stub m text)
     where
-      points : (pc : ℕ) (core : List Val) → Lower (start_point other m pc core) (start_point now m pc core)
+      points : (pc : ℕ) (core : List Val) → Lower (start_point known_words other m pc core) (start_point known_words now m pc core)
       points pc core =
           record { point = refl; core = each_own core; words = words_lower known_words other.public now.public h }
 
@@ -100,7 +100,7 @@ module _ (m : Module) where
       body = m.text.start + 2 * body_word
 
       by : (b : Bool) → Lower
-          (cond b (start_point other m body (slice_set (no_secret body) 7 Away)) (start_point other m m.text.start (no_secret m.text.start)))
-          (cond b (start_point now m body (slice_set (no_secret body) 7 Away)) (start_point now m m.text.start (no_secret m.text.start)))
+          (cond b (start_point known_words other m body (slice_set (no_secret body) 7 Away)) (start_point known_words other m m.text.start (no_secret m.text.start)))
+          (cond b (start_point known_words now m body (slice_set (no_secret body) 7 Away)) (start_point known_words now m m.text.start (no_secret m.text.start)))
       by true = points body (slice_set (no_secret body) 7 Away)
       by false = points m.text.start (no_secret m.text.start)
