@@ -13,7 +13,7 @@ USE = r"^ *(?:unfoldable )?(pub )?(?:ghost )?use ([^\s{;]+?)(?:(?:\.|::)\{([^}]*
 ITEM = r"(?:pub(?:\([a-z]+\))? )?(?:struct|enum|type|trait|const|impl|fn|ghost)\b|    (?:pub )?(?:fn|ghost)\b"
 PART = r"( *)(pub )?(?:pub\([a-z]+\) )?(?:const (?=fn))?(\w+)(?: (\w+))?"
 IMPL = r"impl(?:<.*?>)? (?:(?:\w+::)*(\w+)(?:<.*?>)? for )?&?(?:\w+::)*(\w+)"
-BOUND = r"λ ([^.]*)\.|[({]([^(){}:]*) :|\blet ([^=:]*) [=:]|([\w(), ]+) ←|^ +pub (\w+) :|\b(\w+): |^\S+ ([^:=]*) =\s"
+BOUND = r"λ ([^.]*)\.|[({]([^(){}:]*) :|\blet ([^=:]*) [=:]|([\w(), ]+) ←|^ +pub (\w+) :|\b(\w+): |^\S+ ([^:=\n]*) =\s"
 specs, sources = {}, {}  # by a module's path: its file · by a crate: its files
 declared, public = {}, []  # by (crate, name): (file, text) of a type's parts · (crate, name, file, contract)
 

@@ -4,7 +4,7 @@ import re
 import shutil
 import subprocess
 
-from elffile import Object
+from sancus.elf import Elf
 from refusal import Refusal
 
 TOP = os.path.dirname(os.path.dirname(os.path.dirname(os.path.realpath(__file__))))
@@ -66,14 +66,16 @@ def place_of(name, flags, kind, module):
 
 def refuse_object(path, found, module):
     """What the linker would take and the machine get wrong."""
-    for index, (name, head) in enumerate(zip(found.names, found.heads)):
-        if name.startswith(CONSTRUCTORS) and head[2] & ALLOC:
+    for index, section in enumerate(found.sections):
+        name = section.name
+        if name.startswith(CONSTRUCTORS) and section.flags & ALLOC:
             raise Refusal(f"{path}: section {name}: nothing runs constructors; call the function from an entry or from main")
         if name.startswith("__interrupt_vector"):
             refuse_interrupt(path, found, index, module)
         if name == ".sancus.calls":
             refuse_calls(path, found, index, module)
-    for name, _, _, _, home in found.symbols:
+    for symbol in found.symbols:
+        name, home = symbol.name, symbol.home
         if home == 0 and FLOATS.match(name) and not INTEGERS.match(name):
             raise Refusal(f"{path}: {name}: there is no floating point; use integers or fixed point")
         if home and name.startswith("_Z"):
@@ -84,10 +86,10 @@ def refuse_object(path, found, module):
 
 def targets(found, index):
     """The names of the sections that the relocations of this one point to."""
-    for _, symbol, _ in found.relocated(index).values():
-        home = found.symbols[symbol][4]
-        if 0 < home < len(found.names):
-            yield found.names[home]
+    for relocation in found.relocations(index).values():
+        home = found.symbols[relocation.symbol].home
+        if 0 < home < len(found.sections):
+            yield found.sections[home].name
 
 
 def refuse_interrupt(path, found, index, module):
@@ -102,15 +104,15 @@ def refuse_calls(path, found, index, module):
 
 def finish(path, module):
     """Refuses the object, or moves its sections into the module and gives it helpers of its own."""
-    found = Object(path)
+    found = Elf.load(path)
     refuse_object(path, found, module)
     if not module:
         return
     words, own = [], runtime_blocks()
-    for name, head in zip(found.names, found.heads):
-        if head[2] & ALLOC and not name.startswith(".sm."):
-            words += ["--rename-section", f"{name}={place_of(name, head[2], head[1], module)}"]
-    for name in sorted({symbol[0] for symbol in found.symbols} & set(own)):
+    for section in found.sections:
+        if section.flags & ALLOC and not section.name.startswith(".sm."):
+            words += ["--rename-section", f"{section.name}={place_of(section.name, section.flags, section.kind, module)}"]
+    for name in sorted({symbol.name for symbol in found.symbols} & set(own)):
         words += ["--redefine-sym", f"{name}={module}.{name}"]
     run([tool("OBJCOPY", "llvm-objcopy"), *words, path])
 
@@ -164,8 +166,8 @@ def make_runtime(module, objects, out):
     blocks, prefix = runtime_blocks(), f"{module}." if module else ""
     defined, wanted = set(), set()
     for path in objects:
-        for name, _, _, _, home in Object(path).symbols:
-            (defined if home else wanted).add(name)
+        for symbol in Elf.load(path).symbols:
+            (defined if symbol.home else wanted).add(symbol.name)
     needs = [name for name in blocks if prefix + name in wanted - defined]
     for name in needs:
         needs += [called for called in sorted(blocks[name]) if called not in needs]

@@ -67,11 +67,11 @@ def sizes(program):
     """The bytes of text and of data of each module, None being the outside."""
     total = {None: [0, 0]}
     for found in program.objects:
-        for name, head in zip(found.names, found.heads):
-            if head[2] & ALLOC:
-                taken = total.setdefault(module_of(name), [0, 0])
-                kind = 1 if head[2] & WRITE else 0
-                taken[kind] += head[5] + max(head[8], 2) - 1
+        for section in found.sections:
+            if section.flags & ALLOC:
+                taken = total.setdefault(module_of(section.name), [0, 0])
+                kind = 1 if section.flags & WRITE else 0
+                taken[kind] += section.size + max(section.align, 2) - 1
     return total
 
 

@@ -2,11 +2,11 @@
 import struct
 import sys
 
-from elffile import Object
+from sancus.elf import Elf
 from refusal import Refusal
 
 ALLOC, EXEC = 2, 4
-FUNCTION = 2
+SECTION, FUNCTION = 3, 2
 
 
 def module_of(name):
@@ -60,60 +60,52 @@ class Program:
     """The functions of all objects, by object and symbol, and the global names."""
 
     def __init__(self, paths):
-        self.objects = [Object(path) for path in paths]
+        self.paths = paths
+        self.objects = [Elf.load(path) for path in paths]
         self.functions, self.globals, self.taken = {}, {}, set()
         for number, found in enumerate(self.objects):
             self.add_functions(number, found)
         for number, found in enumerate(self.objects):
             self.add_stacks(number, found)
-            for index, head in enumerate(found.heads):
-                if head[2] & ALLOC:
+            for index, section in enumerate(found.sections):
+                if section.flags & ALLOC:
                     self.add_references(number, found, index)
 
     def add_functions(self, number, found):
-        for name, value, size, info, home in found.symbols:
-            if not 0 < home < len(found.heads):
+        for symbol in found.symbols:
+            home, value = symbol.home, symbol.value
+            if not 0 < home < len(found.sections):
                 continue
-            if info >> 4:
-                self.globals[name] = (number, home, value)
-            if info & 15 == FUNCTION or info >> 4 and found.heads[home][2] & EXEC:
-                function = Function(name, found.path, module_of(found.names[home]))
+            section = found.sections[home]
+            if symbol.info >> 4:
+                self.globals[symbol.name] = (number, home, value)
+            if symbol.info & 15 == FUNCTION or symbol.info >> 4 and section.flags & EXEC:
+                function = Function(symbol.name, self.paths[number], module_of(section.name))
                 self.functions[number, home, value] = function
-                end = value + size if size else found.heads[home][5]
+                end = value + symbol.size if symbol.size else section.size
                 function.by_pointer = indirect(found.content(home)[value:end])
 
     def add_stacks(self, number, found):
-        for index, name in enumerate(found.names):
-            if name != ".stack_sizes":
+        for index, section in enumerate(found.sections):
+            if section.name != ".stack_sizes":
                 continue
-            places = {offset: symbol for offset, symbol, _ in found.relocated(index).values()}
-            addends = self.addends(found, index)
+            relocations = {one.offset: one for one in found.relocations(index).values()}
             data, at = found.content(index), 0
             while at + 2 < len(data):
-                place = self.place(number, found, places.get(at), addends.get(at, 0))
+                place = self.place(number, found, relocations.get(at))
                 size, after = uleb(data, at + 2)
                 if place in self.functions:
                     self.functions[place].stack = size
                 at = after
 
-    @staticmethod
-    def addends(found, index):
-        told = {}
-        for head in found.heads:
-            if head[1] == 4 and head[7] == index:
-                for at in range(head[4], head[4] + head[5] - 11, 12):
-                    offset, _, addend = struct.unpack_from("<2Ii", found.data, at)
-                    told[offset] = addend
-        return told
-
-    def place(self, number, found, symbol, addend):
+    def place(self, number, found, relocation):
         """Where a relocation points: object, section and offset, or None where no object defines it."""
-        if symbol is None:
+        if relocation is None:
             return None
-        name, value, _, info, home = found.symbols[symbol]
-        if home == 0:
-            return self.globals.get(name)
-        return (number, home, value + (addend if info & 15 == 3 else 0))
+        symbol = found.symbols[relocation.symbol]
+        if symbol.home == 0:
+            return self.globals.get(symbol.name)
+        return (number, symbol.home, symbol.value + (relocation.addend if symbol.info & 15 == SECTION else 0))
 
     def inside(self, number, index, offset):
         """The function in whose bytes an offset lies."""
@@ -121,11 +113,12 @@ class Program:
         return self.functions[max(starts)] if starts else None
 
     def add_references(self, number, found, index):
-        addends, code = self.addends(found, index), found.content(index)
-        for offset, symbol, _ in found.relocated(index).values():
-            target = self.place(number, found, symbol, addends.get(offset, 0))
+        code = found.content(index)
+        for relocation in found.relocations(index).values():
+            offset = relocation.offset
+            target = self.place(number, found, relocation)
             user = self.inside(number, index, offset)
-            self.refuse_reference(found, index, symbol, target, user)
+            self.refuse_reference(number, index, relocation.symbol, target, user)
             callee = self.functions.get(target)
             if callee is None:
                 continue
@@ -137,21 +130,24 @@ class Program:
             if not user or user.path != callee.path:
                 callee.named.add(user)
 
-    def refuse_reference(self, found, index, symbol, target, user):
+    def refuse_reference(self, number, index, symbol, target, user):
         """A module's code that goes to code of another module, or outside, which is no entry."""
-        module = module_of(found.names[index])
+        found = self.objects[number]
+        path, section = self.paths[number], found.sections[index].name
+        module = module_of(section)
         if target is None:
             return
-        other = module_of(self.objects[target[0]].names[target[1]])
-        executable = self.objects[target[0]].heads[target[1]][2] & EXEC
-        name = found.symbols[symbol][0] or self.objects[target[0]].names[target[1]]
-        where = user.name if user else found.names[index]
+        used = self.objects[target[0]].sections[target[1]]
+        other = module_of(used.name)
+        executable = used.flags & EXEC
+        name = found.symbols[symbol].name or used.name
+        where = user.name if user else section
         if module and other is None and executable:
-            raise Refusal(f"{found.path}: {where} in module {module} uses {name}, which lies outside; "
+            raise Refusal(f"{path}: {where} in module {module} uses {name}, which lies outside; "
                           f"compile its file with --module {module}")
-        if other and module != other and found.names[index] != "__interrupt_vector":
+        if other and module != other and section != "__interrupt_vector":
             way = "use SM_CALL from outside, SM_LEAVE_FOR from a module"
-            raise Refusal(f"{found.path}: {where} uses {name} of module {other} by its name; {way}")
+            raise Refusal(f"{path}: {where} uses {name} of module {other} by its name; {way}")
 
     def depth(self, place, path=()):
         """Bytes that a call of the function takes, its return address among them; None where that is not known."""
@@ -176,12 +172,12 @@ def check(layout, paths, alone=False):
     """Refuses objects that link by the layout and go wrong. One object alone is not the whole of a module."""
     program = Program(paths)
     modules = {module["name"]: module for module in layout["module"]}
-    for found in program.objects:
-        for name, head in zip(found.names, found.heads):
-            module = module_of(name)
-            if module is not None and module not in modules and head[5]:
+    for path, found in zip(paths, program.objects):
+        for section in found.sections:
+            module = module_of(section.name)
+            if module is not None and module not in modules and section.size:
                 known = ", ".join(modules) or "none"
-                raise Refusal(f"{found.path}: section {name}: the layout has no module {module} (it has: {known})")
+                raise Refusal(f"{path}: section {section.name}: the layout has no module {module} (it has: {known})")
     for name, module in modules.items():
         check_stack(program, module)
         for entry in module["entries"]:

@@ -26,6 +26,7 @@ class Section:
     size: int
     link: int
     info: int
+    align: int
 
 
 @dataclass(frozen=True, slots=True)
@@ -65,7 +66,7 @@ class Elf:
                 raise Damaged("the file is cut: it ends before one of its sections")
         for head in heads:
             name = self.string(heads[names][4:6], head[0]) if names < count else ""
-            self.sections.append(Section(name, *head[1:8]))
+            self.sections.append(Section(name, *head[1:9]))
         self.symbols = [symbol for section in self.sections if section.kind == SYMTAB for symbol in self._symbols(section)]
 
     @classmethod
